@@ -1,0 +1,9 @@
+pub mod Below
+pub mod Every
+pub mod Cases
+pub mod Stores
+pub mod Masks
+pub mod Words
+pub mod Copied
+pub mod Spelled
+pub mod Conjunction

@@ -1,0 +1,5 @@
+pub mod Rows
+pub mod Numbered
+pub mod Bounds
+pub mod Agree
+pub mod Rising

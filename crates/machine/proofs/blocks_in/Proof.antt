@@ -1,0 +1,16 @@
+use borrow.Author.Needs.{needs}
+use borrow.Author.Tests.{lt-ltb, le-ltb, le-leb, lt-leb}
+use Rattle.machine.specs.Timing.{blocksIn}
+use Rattle.machine.proofs.blocks_in.Statement.{statement}
+use Rattle.machine.proofs.blocks_in.Tie as tie
+
+returns : tie.Need-returns
+unfolding blocksIn
+returns c = search (lt-ltb, le-ltb, le-leb, lt-leb, needs)
+
+returns-2 : tie.Need-returns-2
+unfolding blocksIn
+returns-2 c = search (lt-ltb, le-ltb, le-leb, lt-leb, needs)
+
+pub blocks-in-spec : {M : Type 1} → statement M
+blocks-in-spec = tie.close (tie.spec returns returns-2)

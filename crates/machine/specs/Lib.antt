@@ -1,0 +1,4 @@
+pub mod Numbers
+pub mod Timing
+pub mod Contended
+pub mod Pages

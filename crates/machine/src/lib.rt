@@ -1,0 +1,242 @@
+// What it is: the timing of the two machines, after rustzx's machine/mod.rs and specs.rs: delay, block and border position, interrupt, contended pages and ports, memory sizes.
+// What it promises: at every 32-bit clock each function gives exactly what document 01's "Numbers of the two machines" says; none asks anything of its caller.
+// Where its definitions stand: specs/Numbers.antt (the table of numbers), specs/Timing.antt (the readings of a clock), specs/Contended.antt (pages and ports).
+ghost use mathlib.Core.Path.{_≡_};
+ghost use Rattle.machine.specs.Numbers.{specsOf, Regular};
+ghost use Rattle.machine.specs.Timing.{delay, blocksIn, blocksAt, blockPosition, borderIn, borderAt, borderPosition, frameEnd, interrupt};
+ghost use Rattle.machine.specs.Contended.{portContended, bankContended};
+
+pub enum ZXMachine {
+    Sinclair48K,
+    Sinclair128K,
+}
+
+// A machine's numbers: clocks of a line and of a frame, lines in a frame, the three origins in clocks, and bytes of RAM and ROM.
+pub struct ZXSpecs {
+    pub line: u32,
+    pub lines: u32,
+    pub frame: u32,
+    pub contention: u32,
+    pub block: u32,
+    pub border: u32,
+    pub ram: usize,
+    pub rom: usize,
+}
+
+const SPECS_48K: ZXSpecs = ZXSpecs {
+    line: 224,
+    lines: 312,
+    frame: 69888,
+    contention: 14335,
+    block: 14338,
+    border: 8945,
+    ram: 49152,
+    rom: 16384,
+};
+
+const SPECS_128K: ZXSpecs = ZXSpecs {
+    line: 228,
+    lines: 311,
+    frame: 70908,
+    contention: 14361,
+    block: 14364,
+    border: 8875,
+    ram: 131072,
+    rom: 32768,
+};
+
+// How many 8 x 1 blocks have been fetched: whole lines, and columns of the next one.
+pub struct BlocksCount {
+    pub lines: u32,
+    pub columns: u32,
+}
+
+// Where the border's beam is: at a line and a pixel, or past the last one.
+pub enum BorderPlace {
+    At { line: u32, pixel: u32 },
+    FrameEnd,
+}
+
+impl ZXMachine {
+    pub fn specs(self) -> ZXSpecs
+        ensures { λ r. ⌜ r ≡ specsOf self ⌝ }
+    {
+        match self {
+            ZXMachine::Sinclair48K => SPECS_48K,
+            ZXMachine::Sinclair128K => SPECS_128K,
+        }
+    }
+
+    // The clocks for which the Z80 is held at a clock of the frame. Each arm names its numbers, so that the compiler
+    // divides by a constant.
+    pub fn contention_clocks(self, clocks: u32) -> u32
+        ensures { λ r. ⌜ r ≡ delay (specsOf self) clocks ⌝ }
+    {
+        match self {
+            ZXMachine::Sinclair48K => delay_by(SPECS_48K, clocks),
+            ZXMachine::Sinclair128K => delay_by(SPECS_128K, clocks),
+        }
+    }
+
+    pub fn blocks_count(self, clocks: u32) -> BlocksCount
+        ensures { λ r. ⌜ r ≡ blocksAt (specsOf self) clocks ⌝ }
+    {
+        match self {
+            ZXMachine::Sinclair48K => blocks_by(SPECS_48K, clocks),
+            ZXMachine::Sinclair128K => blocks_by(SPECS_128K, clocks),
+        }
+    }
+
+    pub fn next_border_pixel(self, clocks: u32) -> BorderPlace
+        ensures { λ r. ⌜ r ≡ borderAt (specsOf self) clocks ⌝ }
+    {
+        match self {
+            ZXMachine::Sinclair48K => border_by(SPECS_48K, clocks),
+            ZXMachine::Sinclair128K => border_by(SPECS_128K, clocks),
+        }
+    }
+
+    // The block position as one number.
+    pub fn block_position(self, clocks: u32) -> u32
+        ensures { λ r. ⌜ r ≡ blockPosition (specsOf self) clocks ⌝ }
+    {
+        let b = self.blocks_count(clocks);
+        32 * b.lines + b.columns
+    }
+
+    // The border position as one number, 76,800 at frame end.
+    pub fn border_position(self, clocks: u32) -> u32
+        ensures { λ r. ⌜ r ≡ borderPosition (specsOf self) clocks ⌝ }
+    {
+        match self.next_border_pixel(clocks) {
+            BorderPlace::At { line, pixel } => 320 * line + pixel,
+            BorderPlace::FrameEnd => 76800,
+        }
+    }
+
+    pub fn frame_end(self, clocks: u32) -> bool
+        ensures { λ r. ⌜ r ≡ frameEnd (specsOf self) clocks ⌝ }
+    {
+        match self.next_border_pixel(clocks) {
+            BorderPlace::At { line: _, pixel: _ } => false,
+            BorderPlace::FrameEnd => true,
+        }
+    }
+
+    pub fn port_is_contended(self, port: u16) -> bool
+        ensures { λ r. ⌜ r ≡ portContended self port ⌝ }
+    {
+        port & 0x0001 == 0
+    }
+
+    pub fn bank_is_contended(self, page: u32) -> bool
+        ensures { λ r. ⌜ r ≡ bankContended self page ⌝ }
+    {
+        match self {
+            ZXMachine::Sinclair48K => page == 0,
+            ZXMachine::Sinclair128K => (page == 1) | (page == 3) | (page == 5) | (page == 7),
+        }
+    }
+}
+
+const CONTENTION_PATTERN: [u32; 8] = [6, 5, 4, 3, 2, 1, 0, 0];
+
+fn delay_by(s: ZXSpecs, clocks: u32) -> u32
+    requires { ⌜ Regular s ⌝ }
+    ensures { λ r. ⌜ r ≡ delay s clocks ⌝ }
+{
+    let origin = s.contention;
+    let line = s.line;
+    if clocks < origin {
+        return 0;
+    }
+    let end = origin + 192 * line;
+    if end <= clocks {
+        return 0;
+    }
+    let x = (clocks - origin) % line;
+    if x < 128 {
+        let k = (x % 8) as usize;
+        CONTENTION_PATTERN[k]
+    } else {
+        0
+    }
+}
+
+fn blocks_by(s: ZXSpecs, clocks: u32) -> BlocksCount
+    requires { ⌜ Regular s ⌝ }
+    ensures { λ r. ⌜ r ≡ blocksAt s clocks ⌝ }
+{
+    let origin = s.block;
+    let line = s.line;
+    if clocks < origin {
+        return BlocksCount {
+            lines: 0,
+            columns: 0,
+        };
+    }
+    let c = clocks - origin;
+    let row = c / line;
+    let column = c % line / 4 + 1;
+    if 32 < column {
+        let next = row + 1;
+        blocks_in(next, 0)
+    } else {
+        blocks_in(row, column)
+    }
+}
+
+fn border_by(s: ZXSpecs, clocks: u32) -> BorderPlace
+    requires { ⌜ Regular s ⌝ }
+    ensures { λ r. ⌜ r ≡ borderAt s clocks ⌝ }
+{
+    let origin = s.border;
+    let line = s.line;
+    if clocks < origin {
+        return BorderPlace::At { line: 0, pixel: 0 };
+    }
+    let c = clocks - origin;
+    let row = c / line;
+    let pixel = 2 * (c % line + 1);
+    if 320 < pixel {
+        let next = row + 1;
+        border_in(next, 0)
+    } else {
+        border_in(row, pixel)
+    }
+}
+
+// Line 192 or later is the end.
+fn blocks_in(line: u32, column: u32) -> BlocksCount
+    ensures { λ r. ⌜ r ≡ blocksIn line column ⌝ }
+{
+    if 192 <= line {
+        BlocksCount {
+            lines: 192,
+            columns: 0,
+        }
+    } else {
+        BlocksCount {
+            lines: line,
+            columns: column,
+        }
+    }
+}
+
+// Line 240 or later is frame end.
+fn border_in(line: u32, pixel: u32) -> BorderPlace
+    ensures { λ r. ⌜ r ≡ borderIn line pixel ⌝ }
+{
+    if 240 <= line {
+        BorderPlace::FrameEnd
+    } else {
+        BorderPlace::At { line, pixel }
+    }
+}
+
+// The interrupt is on in the first clocks of a frame.
+pub fn int_active(clocks: u32) -> bool
+    ensures { λ r. ⌜ r ≡ interrupt clocks ⌝ }
+{
+    clocks < 32
+}

@@ -1,0 +1,5 @@
+pub mod RoundTrips
+pub mod Attributes
+pub mod OneBit
+pub mod Shown
+pub mod Painting

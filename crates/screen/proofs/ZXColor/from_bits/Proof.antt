@@ -1,0 +1,22 @@
+-- Each way out is the definition's test.
+-- Assumes nothing.
+use native.Mathlib.Omega.{arith}
+use borrow.Author.Needs.{needs}
+use borrow.Author.Tests.{le-leb, lt-leb}
+use Rattle.screen.proofs.ZXColor.from_bits.Statement.{statement}
+use Rattle.screen.proofs.ZXColor.from_bits.Tie as tie
+
+cast-color : tie.Need-cast-color
+cast-color c = search needs
+
+color-requires : tie.Need-color-requires
+color-requires c κs = search needs
+
+returns : tie.Need-returns
+returns c = rw (c .color .ensures, le-leb (c .before .before .args .bits) 7 (omega arith))
+
+returns-2 : tie.Need-returns-2
+returns-2 c = rw (lt-leb (c .before .args .bits) 7 (omega arith))
+
+pub from-bits-spec : {M : Type 1} → statement M
+from-bits-spec = tie.close (tie.spec cast-color color-requires returns returns-2)

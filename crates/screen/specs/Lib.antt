@@ -1,0 +1,4 @@
+pub mod Address
+pub mod Color
+pub mod Pixel
+pub mod Paint

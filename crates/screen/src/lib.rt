@@ -1,0 +1,322 @@
+// What it is: the screen of the ULA: the five address helpers, colours and attributes, the pixel rule, and painting.
+// What it promises: each helper answers for every number, in range or not; painting leaves in the picture what the pixel rule gives for the blocks asked for, and no other byte changed.
+// Where its definitions stand: specs/Address.antt (helpers), specs/Color.antt (colours, attributes), specs/Pixel.antt (the pixel rule), specs/Paint.antt (painting).
+ghost use mathlib.Core.Path.{_≡_};
+ghost use mathlib.Core.Bool.{cond, _&&_};
+ghost use Prim.Native.Nat.{_+_, _-_, _*_, _≤_, _<_};
+ghost use lib.Bits.{bitAnd, bitXor};
+ghost use lib.Dec.{eqb};
+ghost use lib.ListN.{length, take, drop};
+ghost use lib.Seq.{sets};
+ghost use Rattle.offsets.specs.Offset.{IsTable};
+ghost use Rattle.screen.specs.Address.{lineAddress, lineAt, columnAt, attributeRow, attributeColumn};
+ghost use Rattle.screen.specs.Color.{bit, colorOf, fromBits, colorNumber, brightnessOf, attributeOf, activeColor};
+ghost use Rattle.screen.specs.Pixel.{inkOf, paperOf, blockOf, pixelByte};
+ghost use Rattle.screen.specs.Paint.{blockAt, paint, blocks};
+
+// What an address helper answers: a number, or that the number it was given is outside its range (refusal 8).
+pub enum Helped {
+    Number(u32),
+    OutOfRange,
+}
+
+// The address where a picture line starts: 0 1 0 Y7 Y6 Y2 Y1 Y0 | Y5 Y4 Y3 0 0 0 0 0.
+pub fn bitmap_line_addr(line: u32) -> Helped
+    ensures { λ r. ⌜ r ≡ lineAddress line ⌝ }
+{
+    if line <= 191 {
+        Helped::Number(0x4000 | (line << 5) & 0x1800 | (line << 8) & 0x0700 | (line << 2) & 0x00E0)
+    } else {
+        Helped::OutOfRange
+    }
+}
+
+// The picture line of a bitmap byte, by its offset in the page.
+pub fn bitmap_line_rel(addr: u32) -> Helped
+    ensures { λ r. ⌜ r ≡ lineAt addr ⌝ }
+{
+    if addr <= 0x17FF {
+        let l = addr & 0xFF;
+        let h = addr >> 8;
+        Helped::Number((h & 0x07) | ((l >> 2) & 0x38) | ((h << 3) & 0xC0))
+    } else {
+        Helped::OutOfRange
+    }
+}
+
+// The column of a bitmap byte, by its offset in the page.
+pub fn bitmap_col_rel(addr: u32) -> Helped
+    ensures { λ r. ⌜ r ≡ columnAt addr ⌝ }
+{
+    if addr <= 0x17FF {
+        Helped::Number(addr & 0x1F)
+    } else {
+        Helped::OutOfRange
+    }
+}
+
+// The row of an attribute, by its offset in the page.
+pub fn attr_row_rel(addr: u32) -> Helped
+    ensures { λ r. ⌜ r ≡ attributeRow addr ⌝ }
+{
+    if addr < 0x1800 {
+        return Helped::OutOfRange;
+    }
+    if addr <= 0x1AFF {
+        Helped::Number((addr - 0x1800) / 32)
+    } else {
+        Helped::OutOfRange
+    }
+}
+
+// The column of an attribute, by its offset in the page.
+pub fn attr_col_rel(addr: u32) -> Helped
+    ensures { λ r. ⌜ r ≡ attributeColumn addr ⌝ }
+{
+    if addr < 0x1800 {
+        return Helped::OutOfRange;
+    }
+    if addr <= 0x1AFF {
+        Helped::Number((addr - 0x1800) % 32)
+    } else {
+        Helped::OutOfRange
+    }
+}
+
+// The eight colours, numbered from 0 in this order.
+pub enum ZXColor {
+    Black,
+    Blue,
+    Red,
+    Purple,
+    Green,
+    Cyan,
+    Yellow,
+    White,
+}
+
+// What `from_bits` answers: a colour, or that the number is above 7 (refusal 8).
+pub enum Colored {
+    Color(ZXColor),
+    OutOfRange,
+}
+
+impl ZXColor {
+    pub fn from_bits(bits: u32) -> Colored
+        ensures { λ r. ⌜ r ≡ fromBits bits ⌝ }
+    {
+        if bits <= 7 {
+            let c = color(bits as u8);
+            Colored::Color(c)
+        } else {
+            Colored::OutOfRange
+        }
+    }
+
+    // The colour's number.
+    pub fn bits(self) -> u8
+        ensures { λ r. ⌜ r ≡ colorNumber self ⌝ }
+    {
+        match self {
+            ZXColor::Black => 0,
+            ZXColor::Blue => 1,
+            ZXColor::Red => 2,
+            ZXColor::Purple => 3,
+            ZXColor::Green => 4,
+            ZXColor::Cyan => 5,
+            ZXColor::Yellow => 6,
+            ZXColor::White => 7,
+        }
+    }
+}
+
+// The colour of a number; its callers have judged that it is below 8.
+fn color(bits: u8) -> ZXColor
+    ensures { λ r. ⌜ r ≡ colorOf bits ⌝ }
+{
+    match bits {
+        0 => ZXColor::Black,
+        1 => ZXColor::Blue,
+        2 => ZXColor::Red,
+        3 => ZXColor::Purple,
+        4 => ZXColor::Green,
+        5 => ZXColor::Cyan,
+        6 => ZXColor::Yellow,
+        _ => ZXColor::White,
+    }
+}
+
+pub enum ZXBrightness {
+    Normal,
+    Bright,
+}
+
+fn brightness(byte: u8) -> ZXBrightness
+    ensures { λ r. ⌜ r ≡ brightnessOf byte ⌝ }
+{
+    if byte & 0x40 == 0 {
+        ZXBrightness::Normal
+    } else {
+        ZXBrightness::Bright
+    }
+}
+
+pub struct ZXAttribute {
+    pub ink: ZXColor,
+    pub paper: ZXColor,
+    pub brightness: ZXBrightness,
+    pub flash: bool,
+}
+
+impl ZXAttribute {
+    pub fn from_byte(byte: u8) -> ZXAttribute
+        ensures { λ r. ⌜ r ≡ attributeOf byte ⌝ }
+    {
+        let ink = color(byte & 0x07);
+        let paper = color((byte >> 3) & 0x07);
+        let brightness = brightness(byte);
+        let flash = (byte & 0x80) != 0;
+        ZXAttribute {
+            ink,
+            paper,
+            brightness,
+            flash,
+        }
+    }
+
+    // The colour of a pixel whose bit is `state`.
+    pub fn active_color(self, state: bool, flash: bool) -> ZXColor
+        ensures { λ r. ⌜ r ≡ activeColor self state flash ⌝ }
+    {
+        let ink = self.ink;
+        let paper = self.paper;
+        if state ^ (self.flash & flash) {
+            ink
+        } else {
+            paper
+        }
+    }
+}
+
+// The byte of a pixel of that colour and brightness.
+pub fn pixel_byte(color: ZXColor, brightness: ZXBrightness) -> u8
+    ensures { λ r. ⌜ r ≡ pixelByte color brightness ⌝ }
+{
+    let bits = color.bits();
+    match brightness {
+        ZXBrightness::Normal => bits,
+        ZXBrightness::Bright => bits + 8,
+    }
+}
+
+// From here on the pixel rule on bytes, for speed; proofs/Attributes.antt has that it is what the attribute gives.
+fn ink(attr: u8) -> u8
+    ensures { λ r. ⌜ r ≡ inkOf attr ⌝ }
+{
+    attr & 7 | attr >> 3 & 8
+}
+
+fn paper(attr: u8) -> u8
+    ensures { λ r. ⌜ r ≡ paperOf attr ⌝ }
+{
+    attr >> 3 & 15
+}
+
+// The bits that show ink: the bitmap's, turned over where the attribute flashes and flash is on.
+fn lit(attr: u8, bitmap: u8, flash: bool) -> u8
+    ensures { λ r. ⌜ r ≡ cond (bit 7 attr && flash) (bitXor bitmap 255) bitmap ⌝ }
+{
+    if flash {
+        if 128 <= attr {
+            return bitmap ^ 255;
+        }
+    }
+    bitmap
+}
+
+// The pixel at the bit of a mask.
+fn shade(bits: u8, mask: u8, ink: u8, paper: u8) -> u8
+    ensures { λ r. ⌜ r ≡ cond (eqb (bitAnd bits mask) 0) paper ink ⌝ }
+{
+    if bits & mask == 0 { paper } else { ink }
+}
+
+// The eight pixels of a block.
+pub fn block(attr: u8, bitmap: u8, flash: bool) -> [u8; 8]
+    ensures { λ r. ⌜ r ≡ blockOf attr bitmap flash ⌝ }
+{
+    let i = ink(attr);
+    let p = paper(attr);
+    let b = lit(attr, bitmap, flash);
+    [
+        shade(b, 128, i, p),
+        shade(b, 64, i, p),
+        shade(b, 32, i, p),
+        shade(b, 16, i, p),
+        shade(b, 8, i, p),
+        shade(b, 4, i, p),
+        shade(b, 2, i, p),
+        shade(b, 1, i, p),
+    ]
+}
+
+// Block k of the page: eight pixels, from byte 8 k of the picture on.
+fn paint_block(table: &[u16; 6144], page: &[u8], picture: &mut [u8], k: usize, flash: bool)
+    requires { ⌜ IsTable (now table) × (k < 6144) × (length (now page) ≡ 16384) × (length (now picture) ≡ 49152) ⌝ }
+    ensures { λ r. ⌜ now (picture .exit) ≡ sets (now (picture .entry)) (8 * k) (blockAt (now (page .entry)) flash k) ⌝ }
+{
+    let o = table[k] as usize;
+    let a = 0x1800 + k / 256 * 32 + k % 32;
+    let p = block(page[a], page[o], flash);
+    let at = 8 * k;
+    picture[at] = p[0];
+    picture[at + 1] = p[1];
+    picture[at + 2] = p[2];
+    picture[at + 3] = p[3];
+    picture[at + 4] = p[4];
+    picture[at + 5] = p[5];
+    picture[at + 6] = p[6];
+    picture[at + 7] = p[7];
+}
+
+// Blocks `from` to `to` of a page, in raster order; how many they are. The table is named only where there is a block to paint, and once.
+pub fn paint_blocks(page: &[u8], picture: &mut [u8], from: usize, to: usize, flash: bool) -> usize
+    requires { ⌜ (to ≤ 6144) × (length (now page) ≡ 16384) × (length (now picture) ≡ 49152) ⌝ }
+    ensures { λ r. ⌜ (r ≡ to - from) × (now (picture .exit) ≡ paint (now (page .entry)) flash from (to - from) (now (picture .entry))) ⌝ }
+{
+    if to <= from {
+        return 0;
+    }
+    let table = offsets::table();
+    let mut k = from;
+    while k < to {
+        paint_block(&table, page, picture, k, flash);
+        k += 1;
+    }
+    to - from
+}
+
+// The same from the page that starts at `start` of the RAM.
+pub fn paint_ram(
+    ram: &[u8],
+    start: usize,
+    picture: &mut [u8],
+    from: usize,
+    to: usize,
+    flash: bool,
+) -> usize
+    requires { ⌜ (to ≤ 6144) × (start + 16384 ≤ length (now ram)) × (length (now picture) ≡ 49152) ⌝ }
+    ensures { λ r. ⌜ (r ≡ to - from) × (now (picture .exit) ≡ paint (take 16384 (drop start (now (ram .entry)))) flash from (to - from) (now (picture .entry))) ⌝ }
+{
+    let end = start + 16384;
+    let page = &ram[start..end];
+    paint_blocks(page, picture, from, to, flash)
+}
+
+// The still picture: a whole page, whatever the picture held.
+pub fn still(page: &[u8], picture: &mut [u8], flash: bool)
+    requires { ⌜ (length (now page) ≡ 16384) × (length (now picture) ≡ 49152) ⌝ }
+    ensures { λ r. ⌜ now (picture .exit) ≡ blocks (now (page .entry)) flash 0 6144 ⌝ }
+{
+    paint_blocks(page, picture, 0, 6144, flash);
+}
