@@ -1,0 +1,6 @@
+pub mod Maps
+pub mod Parts
+pub mod Places
+pub mod Locking
+pub mod Stored
+pub mod Agree

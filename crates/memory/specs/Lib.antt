@@ -1,0 +1,3 @@
+pub mod Paging
+pub mod Memory
+pub mod Pages

@@ -1,0 +1,68 @@
+-- Document 01: bytes and pages of the lent ROM and RAM. A page is 16 KiB; page p of RAM is its bytes 16,384 p to 16,384 p + 16,383, and so in ROM.
+-- Assumes nothing.
+use Prim.Native.Nat.{ℕ, _+_, _*_, _/_, _%_, _≤_, _<_}
+use mathlib.Core.List.{List, _++_}
+use lib.ListN.{getD, set, take, drop}
+use Rattle.machine.specs.declared.ZXMachine.{ZXMachine}
+use Rattle.machine.specs.Numbers.{specsOf}
+use Rattle.memory.specs.declared.Page.{Page}
+use Rattle.memory.specs.declared.Page.the-variants as page
+use Rattle.memory.specs.declared.Place.{Place}
+use Rattle.memory.specs.declared.Place.the-variants.{Rom, Ram}
+use Rattle.memory.specs.Paging.{pageAt}
+
+-- the byte of a page at an offset, among all the bytes of ROM or of RAM
+abbrev pub placeIn : Page → ℕ → Place
+placeIn (page.Rom p) offset = Rom (16384 * p + offset)
+placeIn (page.Ram p) offset = Ram (16384 * p + offset)
+
+-- the byte at an address: its block's page, at the address's offset in the block
+unfoldable pub placeOf : ZXMachine → ℕ → ℕ → Place
+placeOf m paging addr = placeIn (pageAt m paging (addr / 16384)) (addr % 16384)
+
+-- "byte read"
+abbrev pub byteIn : Place → List ℕ → List ℕ → ℕ
+byteIn (Rom at) rom ram = getD rom at 0
+byteIn (Ram at) rom ram = getD ram at 0
+
+abbrev pub byteAt : ZXMachine → ℕ → List ℕ → List ℕ → ℕ → ℕ
+byteAt m paging rom ram addr = byteIn (placeOf m paging addr) rom ram
+
+-- "byte … write": RAM afterwards. "ROM writes vanish."
+abbrev pub pokedIn : Place → List ℕ → ℕ → List ℕ
+pokedIn (Rom at) ram value = ram
+pokedIn (Ram at) ram value = set ram at value
+
+abbrev pub poked : ZXMachine → ℕ → List ℕ → ℕ → ℕ → List ℕ
+poked m paging ram addr value = pokedIn (placeOf m paging addr) ram value
+
+-- "RAM page by number"
+abbrev pub ramPage : ℕ → List ℕ → List ℕ
+ramPage p ram = take 16384 (drop (16384 * p) ram)
+
+-- "the 16 KiB at a block as a part of the lent ROM or RAM"
+abbrev pub pagePart : Page → List ℕ → List ℕ → List ℕ
+pagePart (page.Rom p) rom ram = take 16384 (drop (16384 * p) rom)
+pagePart (page.Ram p) rom ram = ramPage p ram
+
+-- a ROM and a RAM of these lengths have the page whole
+abbrev pub Holds : Page → ℕ → ℕ → Type 0
+Holds (page.Rom p) rom ram = 16384 * p + 16384 ≤ rom
+Holds (page.Ram p) rom ram = 16384 * p + 16384 ≤ ram
+
+-- "a part reaches C by … its start as the number, RAM counted after ROM"
+abbrev pub startOf : ZXMachine → Place → ℕ
+startOf m (Rom at) = at
+startOf m (Ram at) = specsOf m .rom + at
+
+abbrev pub partStart : ZXMachine → Page → ℕ
+partStart m p = startOf m (placeIn p 0)
+
+-- "page load (16,384 lent bytes into a RAM page)": RAM afterwards
+unfoldable pub loaded : ℕ → List ℕ → List ℕ → List ℕ
+loaded p bytes ram = take (16384 * p) ram ++ bytes ++ drop (16384 * p + 16384) ram
+
+-- a place lies within the machine's ROM or RAM
+abbrev pub Within : ZXMachine → Place → Type 0
+Within m (Rom at) = at < specsOf m .rom
+Within m (Ram at) = at < specsOf m .ram

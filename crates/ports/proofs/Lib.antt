@@ -1,0 +1,9 @@
+pub mod Rows
+pub mod Ways
+pub mod Bits
+pub mod Classes
+pub mod Bools
+pub mod Agree
+pub mod Fetches
+pub mod Keyboards
+pub mod Ignored

@@ -1,0 +1,33 @@
+-- The AND of the key rows, row by row: always a byte; a row more, selected and not.
+-- Assumes nothing.
+use Prim.Native.Nat.{ℕ, zero, suc, _+_, _^_, _<_}
+use mathlib.Core.Path.{_≡_, sym, _∙_}
+use mathlib.Core.Bool.{Bool, true, false, cond}
+use mathlib.Core.List.{List}
+use native.Mathlib.Nat.{mod-eq-of-lt}
+use native.Mathlib.Omega.{arith}
+use native.Mathlib.Numerals.{add-one}
+use lib.Bits.{bitAnd, and-le-l, and-mask}
+use Rattle.ports.specs.Keys.{selected, rowIn, rowsAnd}
+
+-- the AND is a byte, whatever stands in the rows
+pub rows-byte : (rows : List ℕ) (port n : ℕ) → rowsAnd rows port n < 256
+unfolding rowsAnd
+rows-byte rows port zero = omega arith
+rows-byte rows port (suc n) =
+    omega (arith, rows-byte rows port n, and-le-l (rowsAnd rows port n) (cond (selected port n) (rowIn rows n) 0xFF))
+
+-- FFh leaves a byte as it is
+pub and-byte : (v : ℕ) → v < 256 → bitAnd v 0xFF ≡ v
+and-byte v h = and-mask v 8 ∙ mod-eq-of-lt {n = v} {m = 2 ^ 8} h
+
+module _ (rows : List ℕ) (port n v v′ : ℕ) (t : Bool) (p : v ≡ rowsAnd rows port n) (q : t ≡ selected port n) where
+  -- a selected row is ANDed in
+  pub row-taken : t ≡ true → v′ ≡ bitAnd v (rowIn rows n) → v′ ≡ rowsAnd rows port (n + 1)
+  unfolding rowsAnd
+  row-taken e h = rw (add-one, sym q ∙ e) (rw p at h)
+
+  -- another is passed over
+  pub row-passed : t ≡ false → v′ ≡ v → v′ ≡ rowsAnd rows port (n + 1)
+  unfolding rowsAnd
+  row-passed e h = rw (add-one, sym q ∙ e, and-byte (rowsAnd rows port n) (rows-byte rows port n)) (h ∙ p)

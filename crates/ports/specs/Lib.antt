@@ -1,0 +1,5 @@
+pub mod Devices
+pub mod Keys
+pub mod Order
+pub mod Floating
+pub mod Pages

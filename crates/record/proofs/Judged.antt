@@ -1,0 +1,95 @@
+-- Each way out of the judging functions, over plain values: what the code has tested there is what the definitions test.
+-- Assumes nothing.
+use Prim.Native.Nat.{ℕ, _+_, _*_, _/_, _^_, _<_}
+use mathlib.Core.Path.{_≡_, refl}
+use mathlib.Core.List.{List}
+use mathlib.Core.Bool.{Bool, true, false, not, _&&_, _||_, and-true, and-false, or-false}
+use borrow.Author.Tests.{lt-ltb, eq-eqb, ne-eqb}
+use lib.Dec.{ltb, leb, eqb}
+use lib.ListN.{length}
+use Rattle.machine.specs.declared.ZXMachine.{ZXMachine}
+use Rattle.machine.specs.declared.ZXSpecs.{ZXSpecs}
+use Rattle.machine.specs.declared.BorderPlace.{BorderPlace}
+use Rattle.machine.specs.declared.BorderPlace.the-variants.{At, FrameEnd}
+use Rattle.machine.specs.Numbers.{specsOf}
+use Rattle.machine.specs.Timing.{blockPosition, borderAt}
+use Rattle.record.specs.declared.Bus.{Bus}
+use Rattle.record.specs.declared.Held.the-variants.{WrongLength, Unsound, Sound}
+use Rattle.record.specs.Words.{byteAt, wordAt, longAt}
+use Rattle.record.specs.Record.{machineOf, machineAt, clockAt, passedAt, phaseAt, paintedAt, pagingAt, reportedAt, colourAt, blockedAt, pairsAt, inRange, clockInFrame, paintedInPlace, pairsInPlace, blockedAtEnd, pagingAllowed, soundBus, marked, codesInRange, recordOf, soundBytes, heldBy, recordLength}
+
+-- a record made of what stands at the fields' places
+pub decoded : (s : List ℕ) (m : ZXMachine) (clock passed painted pairs : ℕ)
+    → m ≡ machineOf (byteAt s machineAt) → clock ≡ longAt s clockAt → passed ≡ longAt s passedAt → painted ≡ wordAt s paintedAt → pairs ≡ wordAt s pairsAt
+    → _≡_ {A = Bus}
+    (record {
+      machine = m;
+      clock = clock;
+      passed = passed;
+      phase = byteAt s phaseAt;
+      painted = painted;
+      paging = byteAt s pagingAt;
+      reported = byteAt s reportedAt;
+      colour = byteAt s colourAt;
+      blocked = eqb (byteAt s blockedAt) 1;
+      pairs = pairs;
+    })
+    (recordOf s)
+decoded s m clock passed painted pairs e f g h i = rw (e, f, g, h, i)
+
+-- the ranges that the types give need no test
+pub by-types : (b : Bus) → b .passed < 2 ^ 32 → b .paging < 256 → (ltb (b .phase) 32 && ltb (b .reported) 8 && ltb (b .colour) 8) ≡ inRange b
+by-types b p g = rw (lt-ltb (b .passed) (2 ^ 32) p, lt-ltb (b .paging) 256 g, and-true)
+
+module _ (b : Bus) (n : ℕ) (p : BorderPlace) (hn : n ≡ blockPosition (specsOf (b .machine)) (b .clock)) (hp : p ≡ borderAt (specsOf (b .machine)) (b .clock)) where
+  -- before frame end no beam is blocked
+  pub inside : (line pixel : ℕ) → p ≡ At line pixel
+      → (leb (b .painted) n && leb (b .pairs) ((320 * line + pixel) / 2) && not (b .blocked)) ≡ (paintedInPlace b && pairsInPlace b && blockedAtEnd b)
+  inside line pixel e = rw (← hp, e, hn, or-false)
+
+  pub at-end : p ≡ FrameEnd
+      → (leb (b .painted) n && leb (b .pairs) 38400 && (not (b .blocked) || eqb (b .pairs) 0)) ≡ (paintedInPlace b && pairsInPlace b && blockedAtEnd b)
+  at-end e = rw (← hp, e, hn)
+
+-- the code tests the 7FFD byte before the positions
+sooner : (a c d e f g : Bool) → (a && c && g) ≡ true → (d && e && f) ≡ (a && c && d && e && f && g)
+sooner true true d e f true t = rw and-true
+sooner true true d e f false t = cc
+sooner true false d e f g t = cc
+sooner false c d e f g t = cc
+
+fails : (a c d e f g : Bool) → (a && c && g) ≡ false → false ≡ (a && c && d && e && f && g)
+fails true true d e f true t = cc
+fails true true d e f false t = rw and-false
+fails true false d e f g t = refl
+fails false c d e f g t = refl
+
+module _ (b : Bus) (s : ZXSpecs) (r a : Bool) (hs : s ≡ specsOf (b .machine)) (hr : r ≡ inRange b) (ha : a ≡ pagingAllowed (b .machine) (b .paging)) where
+  pub tests-hold : (p : Bool) → p ≡ (paintedInPlace b && pairsInPlace b && blockedAtEnd b) → (r && ltb (b .clock) (s .frame) && a) ≡ true → p ≡ soundBus b
+  unfolding soundBus
+  tests-hold p hp t =
+      rw (hp)
+      (sooner (inRange b) (clockInFrame b) (paintedInPlace b) (pairsInPlace b) (blockedAtEnd b) (pagingAllowed (b .machine) (b .paging)) (rw (hr, hs, ha) at t))
+
+  pub a-test-fails : (r && ltb (b .clock) (s .frame) && a) ≡ false → false ≡ soundBus b
+  unfolding soundBus
+  a-test-fails t =
+      fails (inRange b) (clockInFrame b) (paintedInPlace b) (pairsInPlace b) (blockedAtEnd b) (pagingAllowed (b .machine) (b .paging)) (rw (hr, hs, ha) at t)
+
+module _ (s : List ℕ) (l : length s ≡ recordLength) (d : Bool) (hd : d ≡ (marked s && codesInRange s)) where
+  pub held-uncoded : d ≡ false → Unsound ≡ heldBy s
+  unfolding heldBy soundBytes
+  held-uncoded e = rw (eq-eqb (length s) recordLength l, ← hd, e)
+
+  module _ (b : Bus) (t : Bool) (hb : b ≡ recordOf s) (ht : t ≡ soundBus b) where
+    pub held-sound : d ≡ true → t ≡ true → Sound b ≡ heldBy s
+    unfolding heldBy soundBytes
+    held-sound e f = rw (eq-eqb (length s) recordLength l, ← hd, e, ← hb, ← ht, f)
+
+    pub held-unsound : d ≡ true → t ≡ false → Unsound ≡ heldBy s
+    unfolding heldBy soundBytes
+    held-unsound e f = rw (eq-eqb (length s) recordLength l, ← hd, e, ← hb, ← ht, f)
+
+pub held-wrong : (s : List ℕ) → (length s ≡ recordLength → ⊥) → WrongLength ≡ heldBy s
+unfolding heldBy
+held-wrong s n = rw (ne-eqb (length s) recordLength n)
