@@ -1,0 +1,4 @@
+pub mod World
+pub mod Time
+pub mod Turns
+pub mod Calls

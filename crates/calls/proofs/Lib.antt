@@ -1,0 +1,3 @@
+pub mod CodeRuns
+pub mod CodeReady
+pub mod CodeCalls
