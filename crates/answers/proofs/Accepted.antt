@@ -1,0 +1,212 @@
+-- What an accepted judgement tells: the record is sound and is the one that the bytes stand for, and every length and number is right.
+-- Assumes nothing.
+use Prim.Native.Nat.{ℕ, _<_, _^_}
+use mathlib.Core.Path.{_≡_, sym, ap}
+use mathlib.Core.Bool.{true, false, _&&_}
+use mathlib.Core.List.{List, [], _∷_}
+use native.Mathlib.Omega.{arith}
+use borrow.Author.Tests.{eqb-true, eqb-false, ltb-false, not-false}
+use lib.Dec.{eqb}
+use lib.ListN.{length}
+use Rattle.laws.proofs.Cases.{and-both}
+use Rattle.laws.proofs.Conjunction.{each}
+use Rattle.machine.specs.Numbers.{specsOf}
+use Rattle.record.specs.declared.Bus.{Bus}
+use Rattle.record.specs.declared.Held.{Held}
+use Rattle.record.specs.declared.Held.the-variants as held
+use Rattle.record.specs.Record.{recordBytes, heldBy}
+use Rattle.record.proofs.Soundness.{sound-facts}
+use Rattle.record.proofs.Round.{Bytes, held-decode, held-sound, held-bytes}
+use Rattle.memory.specs.Paging.{pageExists}
+use Rattle.ports.specs.Devices.{flagsOf}
+use Rattle.answers.specs.declared.Verdict.the-variants.{Accepted}
+use Rattle.answers.specs.Refusals.{Cause, judgedHeld, judge}
+use Rattle.answers.specs.Judges.{ramFits, romFits, pictureFits, borderFits, timedFits, numberFits, lentFit, judgeWait, judgePort, judgeState, judgeTold, judgeRead, judgeWrite, judgeLoad, judgeRamPage, judgeRamPageTold, judgeBlock, judgeBlockTold, judgeShown, judgeShownTold, judgeStill}
+use Rattle.answers.specs.Order.{NoneHolds}
+use Rattle.answers.specs.Ready.{OnRecord, Fit, ReadyWait, ReadyPort, ReadyTold, ReadyRead, ReadyWrite, ReadyLoad, ReadyRamPage, ReadyRamPageTold, ReadyBlock, ReadyBlockTold, ReadyShown, ReadyShownTold, ReadyStill}
+use Rattle.answers.proofs.Judging.{never}
+use Rattle.answers.proofs.Order.{accepted-by-none}
+
+by-held : (h : Held) (causes : Bus → List Cause) (bus : Bus) → judgedHeld h causes ≡ Accepted bus → (h ≡ held.Sound bus) × NoneHolds (causes bus)
+by-held held.WrongLength causes bus p = never _ bus p
+by-held held.Unsound causes bus p = never _ bus p
+by-held (held.Sound b) causes bus p =
+    let n = accepted-by-none (causes b) b bus p in
+    (ap held.Sound (sym (n .1)), rw (n .1) (n .0))
+
+on-record : (state : List ℕ) (bus : Bus) → heldBy state ≡ held.Sound bus → OnRecord state bus
+on-record state bus h =
+    let d = held-decode state bus h in
+    record { long = d .0; isHeld = h; decodes = d .2; sound = sound-facts bus (held-sound state bus h) }
+
+-- an accepted call: the record is sound, and no cause holds
+pub accepted : (state : List ℕ) (causes : Bus → List Cause) (bus : Bus) → judge state causes ≡ Accepted bus → OnRecord state bus × NoneHolds (causes bus)
+accepted state causes bus p = let h = by-held (heldBy state) causes bus p in (on-record state bus (h .0), h .1)
+
+-- the bytes of the accepted record are those that were lent, as every element of a slice of bytes in code is a byte
+pub accepted-bytes : (state : List ℕ) (bus : Bus) → Bytes state → OnRecord state bus → recordBytes bus ≡ state
+accepted-bytes state bus b r = held-bytes state bus b (r .isHeld)
+
+-- lengths that fit together
+fits : (bus : Bus) (ram a b border answer : ℕ) → (lentFit bus ram a b border && timedFits answer) ≡ true → Fit bus ram a b border answer
+fits bus ram a b border answer e =
+    let test = each (ramFits bus ram) (pictureFits a ∷ pictureFits b ∷ borderFits border ∷ timedFits answer ∷ []) e in
+    record {
+      ramIs = eqb-true ram (specsOf (bus .machine) .ram) (test 0);
+      aIs = eqb-true a 49152 (test 1);
+      bIs = eqb-true b 49152 (test 2);
+      borderIs = eqb-true border 76800 (test 3);
+      answerIs = eqb-true answer 10 (test 4);
+    }
+
+-- passed frames are not at their last number
+has-room : (bus : Bus) → bus .passed < 2 ^ 32 → eqb (bus .passed) 4294967295 ≡ false → bus .passed < 4294967295
+has-room bus h e = let n = eqb-false (bus .passed) 4294967295 e in omega (arith, h, n)
+
+-- ---- every judgement
+module _ (state : List ℕ) (bus : Bus) where
+  pub ready-wait : (ram a b border clocks answer : ℕ) → judgeWait state ram a b border clocks answer ≡ Accepted bus
+      → ReadyWait state ram a b border clocks answer bus
+  unfolding judgeWait
+  ready-wait ram a b border clocks answer p =
+      let r = accepted state _ bus p in
+      record {
+        onRecord = r .0;
+        fit = fits bus ram a b border answer (not-false (lentFit bus ram a b border && timedFits answer) (r .1 .0));
+        short = ltb-false 65535 clocks (r .1 .1 .0);
+        room = has-room bus (r .0 .sound .passed) (r .1 .1 .1 .0);
+      }
+
+  pub ready-port : (devices : List ℕ) (ram a b border answer : ℕ) → judgePort state devices ram a b border answer ≡ Accepted bus
+      → ReadyPort state devices ram a b border answer bus
+  unfolding judgePort
+  ready-port devices ram a b border answer p =
+      let r = accepted state _ bus p in
+      let test = each (eqb (length devices) 35) (lentFit bus ram a b border ∷ timedFits answer ∷ []) (not-false _ (r .1 .0)) in
+      record {
+        onRecord = r .0;
+        fit = fits bus ram a b border answer (and-both (lentFit bus ram a b border) (timedFits answer) (test 1) (test 2));
+        devicesIs = eqb-true (length devices) 35 (test 0);
+        flags = not-false (flagsOf devices) (r .1 .1 .0);
+        room = has-room bus (r .0 .sound .passed) (r .1 .1 .1 .0);
+      }
+
+  pub ready-state : judgeState state ≡ Accepted bus → OnRecord state bus
+  unfolding judgeState
+  ready-state p = accepted state _ bus p .0
+
+  pub ready-told : (answer : ℕ) → judgeTold state answer ≡ Accepted bus → ReadyTold state answer bus
+  unfolding judgeTold
+  ready-told answer p =
+      let r = accepted state _ bus p in
+      record { onRecord = r .0; answerIs = eqb-true answer 5 (not-false (numberFits answer) (r .1 .0)) }
+
+  pub ready-read : (rom ram answer : ℕ) → judgeRead state rom ram answer ≡ Accepted bus → ReadyRead state rom ram answer bus
+  unfolding judgeRead
+  ready-read rom ram answer p =
+      let r = accepted state _ bus p in
+      let test = each (romFits bus rom) (ramFits bus ram ∷ numberFits answer ∷ []) (not-false _ (r .1 .0)) in
+      record {
+        onRecord = r .0;
+        romIs = eqb-true rom (specsOf (bus .machine) .rom) (test 0);
+        ramIs = eqb-true ram (specsOf (bus .machine) .ram) (test 1);
+        answerIs = eqb-true answer 5 (test 2);
+      }
+
+  pub ready-write : (ram : ℕ) → judgeWrite state ram ≡ Accepted bus → ReadyWrite state ram bus
+  unfolding judgeWrite
+  ready-write ram p =
+      let r = accepted state _ bus p in
+      record { onRecord = r .0; ramIs = eqb-true ram (specsOf (bus .machine) .ram) (not-false (ramFits bus ram) (r .1 .0)) }
+
+  pub ready-load : (ram bytes page : ℕ) → judgeLoad state ram bytes page ≡ Accepted bus → ReadyLoad state ram bytes page bus
+  unfolding judgeLoad
+  ready-load ram bytes page p =
+      let r = accepted state _ bus p in
+      let test = each (ramFits bus ram) (eqb bytes 16384 ∷ []) (not-false _ (r .1 .0)) in
+      record {
+        onRecord = r .0;
+        ramIs = eqb-true ram (specsOf (bus .machine) .ram) (test 0);
+        bytesIs = eqb-true bytes 16384 (test 1);
+        exists = not-false (pageExists (bus .machine) page) (r .1 .1 .0);
+      }
+
+  pub ready-ram-page : (ram page : ℕ) → judgeRamPage state ram page ≡ Accepted bus → ReadyRamPage state ram page bus
+  unfolding judgeRamPage
+  ready-ram-page ram page p =
+      let r = accepted state _ bus p in
+      record {
+        onRecord = r .0;
+        ramIs = eqb-true ram (specsOf (bus .machine) .ram) (not-false (ramFits bus ram) (r .1 .0));
+        exists = not-false (pageExists (bus .machine) page) (r .1 .1 .0);
+      }
+
+  pub ready-ram-page-told : (ram page answer : ℕ) → judgeRamPageTold state ram page answer ≡ Accepted bus → ReadyRamPageTold state ram page answer bus
+  unfolding judgeRamPageTold
+  ready-ram-page-told ram page answer p =
+      let r = accepted state _ bus p in
+      let test = each (ramFits bus ram) (numberFits answer ∷ []) (not-false _ (r .1 .0)) in
+      record {
+        part = record {
+          onRecord = r .0;
+          ramIs = eqb-true ram (specsOf (bus .machine) .ram) (test 0);
+          exists = not-false (pageExists (bus .machine) page) (r .1 .1 .0);
+        };
+        answerIs = eqb-true answer 5 (test 1);
+      }
+
+  pub ready-block : (rom ram block : ℕ) → judgeBlock state rom ram block ≡ Accepted bus → ReadyBlock state rom ram block bus
+  unfolding judgeBlock
+  ready-block rom ram block p =
+      let r = accepted state _ bus p in
+      let test = each (romFits bus rom) (ramFits bus ram ∷ []) (not-false _ (r .1 .0)) in
+      record {
+        onRecord = r .0;
+        romIs = eqb-true rom (specsOf (bus .machine) .rom) (test 0);
+        ramIs = eqb-true ram (specsOf (bus .machine) .ram) (test 1);
+        blockIn = ltb-false 3 block (r .1 .1 .0);
+      }
+
+  pub ready-block-told : (rom ram block answer : ℕ) → judgeBlockTold state rom ram block answer ≡ Accepted bus → ReadyBlockTold state rom ram block answer bus
+  unfolding judgeBlockTold
+  ready-block-told rom ram block answer p =
+      let r = accepted state _ bus p in
+      let test = each (romFits bus rom) (ramFits bus ram ∷ numberFits answer ∷ []) (not-false _ (r .1 .0)) in
+      record {
+        part = record {
+          onRecord = r .0;
+          romIs = eqb-true rom (specsOf (bus .machine) .rom) (test 0);
+          ramIs = eqb-true ram (specsOf (bus .machine) .ram) (test 1);
+          blockIn = ltb-false 3 block (r .1 .1 .0);
+        };
+        answerIs = eqb-true answer 5 (test 2);
+      }
+
+  pub ready-shown : (a b : ℕ) → judgeShown state a b ≡ Accepted bus → ReadyShown state a b bus
+  unfolding judgeShown
+  ready-shown a b p =
+      let r = accepted state _ bus p in
+      let test = each (pictureFits a) (pictureFits b ∷ []) (not-false _ (r .1 .0)) in
+      record { onRecord = r .0; aIs = eqb-true a 49152 (test 0); bIs = eqb-true b 49152 (test 1) }
+
+  pub ready-shown-told : (a b answer : ℕ) → judgeShownTold state a b answer ≡ Accepted bus → ReadyShownTold state a b answer bus
+  unfolding judgeShownTold
+  ready-shown-told a b answer p =
+      let r = accepted state _ bus p in
+      let test = each (pictureFits a) (pictureFits b ∷ numberFits answer ∷ []) (not-false _ (r .1 .0)) in
+      record {
+        part = record { onRecord = r .0; aIs = eqb-true a 49152 (test 0); bIs = eqb-true b 49152 (test 1) };
+        answerIs = eqb-true answer 5 (test 2);
+      }
+
+  pub ready-still : (ram picture flash : ℕ) → judgeStill state ram picture flash ≡ Accepted bus → ReadyStill state ram picture flash bus
+  unfolding judgeStill
+  ready-still ram picture flash p =
+      let r = accepted state _ bus p in
+      let test = each (ramFits bus ram) (pictureFits picture ∷ []) (not-false _ (r .1 .0)) in
+      record {
+        onRecord = r .0;
+        ramIs = eqb-true ram (specsOf (bus .machine) .ram) (test 0);
+        pictureIs = eqb-true picture 49152 (test 1);
+        flashIn = ltb-false 1 flash (r .1 .1 .0);
+      }

@@ -1,0 +1,4 @@
+pub mod Judging
+pub mod Zeros
+pub mod Order
+pub mod Accepted

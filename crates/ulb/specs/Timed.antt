@@ -1,0 +1,116 @@
+-- Document 01: start, the waits, port read and port write, as C calls them.
+-- Assumes nothing.
+use Prim.Native.Nat.{ℕ}
+use mathlib.Core.Bool.{Bool, cond, _&&_}
+use mathlib.Core.List.{List}
+use lib.Dec.{eqb, ltb}
+use lib.ListN.{length}
+use Rattle.machine.specs.declared.ZXMachine.{ZXMachine}
+use Rattle.machine.specs.Numbers.{specsOf}
+use Rattle.machine.specs.Timing.{interrupt}
+use Rattle.record.specs.declared.Bus.{Bus}
+use Rattle.record.specs.Record.{recordBytes, recordLength, machineOf}
+use Rattle.ports.specs.Devices.{devicesOf}
+use Rattle.bus.specs.World.{Core, World, worldOf, busOf, started}
+use Rattle.bus.specs.Turns.{Turn, Part, fresh, ranBy}
+use Rattle.bus.specs.Calls.{plainWait, addressWait, portRead, readValue, portWrite, writeCode}
+use Rattle.answers.specs.declared.Refusal.the-variants.{BadMachine, BadLength}
+use Rattle.answers.specs.declared.Verdict.{Verdict}
+use Rattle.answers.specs.declared.Verdict.the-variants.{Refused, Accepted}
+use Rattle.answers.specs.Refusals.{refusalNumber}
+use Rattle.answers.specs.Judges.{judgeWait, judgePort}
+use Rattle.answers.specs.Answers.{timedAnswer, refusedAnswer}
+
+-- the machine's own slices: state record, RAM, pictures A and B, border
+pub record Lent : Type 0 where
+  pub state : List ℕ
+  pub ram : List ℕ
+  pub a : List ℕ
+  pub b : List ℕ
+  pub border : List ℕ
+
+abbrev pub lent : List ℕ → List ℕ → List ℕ → List ℕ → List ℕ → Lent
+lent state ram a b border = record { state = state; ram = ram; a = a; b = b; border = border }
+
+-- the slices of a machine and its world
+abbrev pub lentBy : ZXMachine → World → Lent
+lentBy m w = lent (recordBytes (busOf m w)) (w .core .ram) (w .screen .a) (w .screen .b) (w .edge .pixels)
+
+-- the world of a sound record among its slices
+abbrev pub lentWorld : Bus → Lent → World
+lentWorld bus l = worldOf bus (l .ram) (l .a) (l .b) (l .border)
+
+-- what a timed call leaves: the number that it returns, the slices, and the answer
+pub record Outcome : Type 0 where
+  pub code : ℕ
+  pub slices : Lent
+  pub answer : List ℕ
+
+abbrev pub outcome : ℕ → Lent → List ℕ → Outcome
+outcome code slices answer = record { code = code; slices = slices; answer = answer }
+
+-- an accepted timed call, when its operations have run
+abbrev pub timedEnd : Turn → ℕ → Outcome
+timedEnd t value =
+    outcome 0 (lentBy (t .machine) (t .world)) (timedAnswer value (t .closed) (interrupt (t .world .core .clock)) (t .clocks) (t .blocks))
+
+-- a timed call: its operations, and its value or code, are what the core at entry decides. "A refused call fills its answer .., returns the
+-- number .. and writes nothing else."
+unfoldable pub timed : (ZXMachine → Part) → (ZXMachine → Core → ℕ) → Lent → List ℕ → Verdict → Outcome
+timed part value l answer (Refused e) = outcome (refusalNumber e) l (refusedAnswer 10 (refusalNumber e) answer)
+timed part value l answer (Accepted bus) =
+    timedEnd (ranBy (part (bus .machine)) (fresh (bus .machine) (lentWorld bus l))) (value (bus .machine) (lentWorld bus l .core))
+
+-- "value or code (0 for a wait)"
+abbrev pub noValue : ZXMachine → Core → ℕ
+noValue m c = 0
+
+abbrev pub judgeWaitOf : Lent → ℕ → List ℕ → Verdict
+judgeWaitOf l clocks answer =
+    judgeWait (l .state) (length (l .ram)) (length (l .a)) (length (l .b)) (length (l .border)) clocks (length answer)
+
+abbrev pub judgePortOf : Lent → List ℕ → List ℕ → Verdict
+judgePortOf l devices answer =
+    judgePort (l .state) devices (length (l .ram)) (length (l .a)) (length (l .b)) (length (l .border)) (length answer)
+
+-- ulb_wait_internal: the plain wait
+unfoldable pub waitInternal : Lent → ℕ → List ℕ → Outcome
+waitInternal l clocks answer = timed (λ m. plainWait clocks) noValue l answer (judgeWaitOf l clocks answer)
+
+-- ulb_wait_mreq and ulb_wait_no_mreq: "Wait (a memory request, or one without) at an address"
+unfoldable pub waitAt : Lent → ℕ → ℕ → List ℕ → Outcome
+waitAt l addr clocks answer = timed (λ m. addressWait m addr clocks) noValue l answer (judgeWaitOf l clocks answer)
+
+-- ulb_read_io
+unfoldable pub readIo : Lent → List ℕ → ℕ → List ℕ → Outcome
+readIo l devices port answer =
+    timed (λ m. portRead m port) (λ m. readValue m (devicesOf devices) port) l answer (judgePortOf l devices answer)
+
+-- ulb_write_io
+unfoldable pub writeIo : Lent → List ℕ → ℕ → ℕ → List ℕ → Outcome
+writeIo l devices port value answer =
+    timed (λ m. portWrite m (devicesOf devices) port value) (λ m. writeCode m (devicesOf devices) port value) l answer
+    (judgePortOf l devices answer)
+
+-- what a start leaves
+pub record Started : Type 0 where
+  pub code : ℕ
+  pub slices : Lent
+
+abbrev pub startLeaves : ℕ → Lent → Started
+startLeaves code slices = record { code = code; slices = slices }
+
+-- ulb_start: "start: machine above 1", then the lengths; "a start only writes it and doesn't judge it"
+abbrev pub startFits : ZXMachine → ℕ → ℕ → ℕ → ℕ → ℕ → Bool
+startFits m state ram a b border =
+    eqb state recordLength && eqb ram (specsOf m .ram) && eqb a 49152 && eqb b 49152 && eqb border 76800
+
+abbrev pub startFitsOf : ZXMachine → Lent → Bool
+startFitsOf m l = startFits m (length (l .state)) (length (l .ram)) (length (l .a)) (length (l .b)) (length (l .border))
+
+unfoldable pub start : Lent → ℕ → Started
+start l machine =
+    cond (ltb 1 machine) (startLeaves (refusalNumber BadMachine) l)
+    (cond (startFitsOf (machineOf machine) l)
+    (startLeaves 0 (lentBy (machineOf machine) (started (machineOf machine))))
+    (startLeaves (refusalNumber BadLength) l))

@@ -1,0 +1,157 @@
+/* ulb.h: the ULA bus of the ZX Spectrum 48K and 128K, proved in Rattle, for C firmware.
+ *
+ * Link with libulb.a. Each call takes byte slices (a pointer and its length) and numbers, and returns its refusal
+ * number: 0 if accepted. A refused call changes no state, memory or picture; it fills its answer with its number and
+ * then zeros, and leaves an answer of the wrong length alone. Slices of one call must not overlap (docs/DUTIES.md).
+ *
+ * Refusals, in the order in which they are judged:
+ *   1  start: machine above 1
+ *   2  the state record has the wrong length
+ *   3  the state record is not sound
+ *   2  another lent slice, or the answer, has the wrong length
+ *   4  a device flag or the tape bit is above 1
+ *   5  a wait above 65,535 clocks
+ *   6  a timed call with passed frames at 4,294,967,295
+ *   7  a RAM page above 2 (48K) or 7 (128K)
+ *   8  a number outside its range
+ *
+ * A timed call's answer has 10 bytes, little-endian:
+ *   0 refusal; 1 value or code (0 for a wait); 2 frame closed 0/1; 3 interrupt after the call 0/1;
+ *   4..7 clocks; 8..9 blocks painted by this call
+ * Another answer has 5 bytes: 0 refusal; 1..4 the number.
+ */
+#ifndef ULB_H
+#define ULB_H
+
+#include <stddef.h>
+#include <stdint.h>
+
+#ifdef __cplusplus
+extern "C" {
+#endif
+
+enum {
+    ULB_STATE_BYTES = 23,
+    ULB_DEVICE_BYTES = 35,
+    ULB_PAGE_BYTES = 16384,
+    ULB_PICTURE_BYTES = 49152, /* 256 x 192, a byte a pixel: colour 0..7, plus 8 if bright */
+    ULB_BORDER_BYTES = 76800,  /* 320 x 240, a byte a pixel: colour 0..7 */
+    ULB_RAM_BYTES_48K = 49152,
+    ULB_ROM_BYTES_48K = 16384,
+    ULB_RAM_BYTES_128K = 131072,
+    ULB_ROM_BYTES_128K = 32768,
+    ULB_TIMED_ANSWER_BYTES = 10,
+    ULB_NUMBER_ANSWER_BYTES = 5
+};
+
+enum { ULB_48K = 0, ULB_128K = 1 };
+
+enum {
+    ULB_OK = 0,
+    ULB_BAD_MACHINE = 1,
+    ULB_BAD_LENGTH = 2,
+    ULB_UNSOUND = 3,
+    ULB_BAD_FLAG = 4,
+    ULB_LONG_WAIT = 5,
+    ULB_FRAMES_FULL = 6,
+    ULB_BAD_PAGE = 7,
+    ULB_BAD_NUMBER = 8
+};
+
+/* Codes of a port write, and 0, PAGED and LOCKED of ulb_write_7ffd. */
+enum {
+    ULB_WROTE_NOTHING = 0,
+    ULB_WROTE_EXTENDER = 1,
+    ULB_WROTE_AY_SELECT = 2,
+    ULB_WROTE_AY_DATA = 3,
+    ULB_WROTE_BORDER = 4,
+    ULB_PAGED = 5,
+    ULB_LOCKED = 6
+};
+
+/* Start: clears RAM, pictures and border to 0 and writes a fresh state record (beam colour 7, all else 0).
+ * It does not judge the record that it writes over. Refusals: 1, 2. */
+uint8_t ulb_start(uint8_t *state, size_t state_len, uint8_t *ram, size_t ram_len, uint8_t *a, size_t a_len,
+                  uint8_t *b, size_t b_len, uint8_t *border, size_t border_len, uint32_t machine);
+
+/* Plain wait: one step of `clocks`. Answer: 10 bytes. Refusals: 2, 3, 2, 5, 6. */
+uint8_t ulb_wait_internal(uint8_t *state, size_t state_len, const uint8_t *ram, size_t ram_len, uint8_t *a,
+                          size_t a_len, uint8_t *b, size_t b_len, uint8_t *border, size_t border_len,
+                          uint32_t clocks, uint8_t *answer, size_t answer_len);
+
+/* Wait at an address, with a memory request and without one: where the address's page is contended a step of the delay
+ * that is due, then a step of `clocks`. Answer: 10 bytes. Refusals: 2, 3, 2, 5, 6. */
+uint8_t ulb_wait_mreq(uint8_t *state, size_t state_len, const uint8_t *ram, size_t ram_len, uint8_t *a, size_t a_len,
+                      uint8_t *b, size_t b_len, uint8_t *border, size_t border_len, uint16_t addr, uint32_t clocks,
+                      uint8_t *answer, size_t answer_len);
+uint8_t ulb_wait_no_mreq(uint8_t *state, size_t state_len, const uint8_t *ram, size_t ram_len, uint8_t *a,
+                         size_t a_len, uint8_t *b, size_t b_len, uint8_t *border, size_t border_len, uint16_t addr,
+                         uint32_t clocks, uint8_t *answer, size_t answer_len);
+
+/* Port read: its value is answer byte 1. `devices` has 35 bytes: three sets of eight key rows; tape bit; extender flag
+ * and byte; AY flag and byte; joystick flag and byte; mouse flag, buttons, x, y. Takes 4 to 16 clocks.
+ * Answer: 10 bytes. Refusals: 2, 3, 2, 4, 6. */
+uint8_t ulb_read_io(uint8_t *state, size_t state_len, const uint8_t *devices, size_t devices_len, const uint8_t *ram,
+                    size_t ram_len, uint8_t *a, size_t a_len, uint8_t *b, size_t b_len, uint8_t *border,
+                    size_t border_len, uint16_t port, uint8_t *answer, size_t answer_len);
+
+/* Port write: answer byte 1 is its code (ULB_WROTE_..., ULB_PAGED, ULB_LOCKED). Takes 4 to 16 clocks.
+ * Answer: 10 bytes. Refusals: 2, 3, 2, 4, 6. */
+uint8_t ulb_write_io(uint8_t *state, size_t state_len, const uint8_t *devices, size_t devices_len, const uint8_t *ram,
+                     size_t ram_len, uint8_t *a, size_t a_len, uint8_t *b, size_t b_len, uint8_t *border,
+                     size_t border_len, uint16_t port, uint8_t value, uint8_t *answer, size_t answer_len);
+
+/* The byte at an address, in no time. Answer: 5 bytes. Refusals: 2, 3, 2. */
+uint8_t ulb_read_internal(const uint8_t *state, size_t state_len, const uint8_t *rom, size_t rom_len,
+                          const uint8_t *ram, size_t ram_len, uint16_t addr, uint8_t *answer, size_t answer_len);
+
+/* A byte to an address, in no time; a write to ROM vanishes. Refusals: 2, 3, 2. */
+uint8_t ulb_write_internal(const uint8_t *state, size_t state_len, uint8_t *ram, size_t ram_len, uint16_t addr,
+                           uint8_t value);
+
+/* A 7FFD write, in no time. Answer: 5 bytes, the number 5 if paged, 6 if locked, 0 on 48K. Refusals: 2, 3, 2. */
+uint8_t ulb_write_7ffd(uint8_t *state, size_t state_len, uint8_t value, uint8_t *answer, size_t answer_len);
+
+/* The last 7FFD byte; whether the interrupt is on (0/1); passed frames. Answer: 5 bytes. Refusals: 2, 3, 2. */
+uint8_t ulb_read_7ffd(const uint8_t *state, size_t state_len, uint8_t *answer, size_t answer_len);
+uint8_t ulb_int_active(const uint8_t *state, size_t state_len, uint8_t *answer, size_t answer_len);
+uint8_t ulb_frames_count(const uint8_t *state, size_t state_len, uint8_t *answer, size_t answer_len);
+
+/* Passed frames back to 0. Refusals: 2, 3. */
+uint8_t ulb_reset_frame_counter(uint8_t *state, size_t state_len);
+
+/* 16,384 bytes into a RAM page. Refusals: 2, 3, 2, 7. */
+uint8_t ulb_load_page(const uint8_t *state, size_t state_len, uint8_t *ram, size_t ram_len, const uint8_t *src,
+                      size_t src_len, uint32_t page);
+
+/* Where a RAM page starts, and where the 16 KiB at a block 0..3 starts: counted through ROM and then RAM, so a number
+ * below the ROM's length is in ROM, and else RAM at that number less the ROM's length.
+ * Answer: 5 bytes. Refusals: 2, 3, 2, then 7 (page) or 8 (block). */
+uint8_t ulb_ram_page(const uint8_t *state, size_t state_len, const uint8_t *ram, size_t ram_len, uint32_t page,
+                     uint8_t *answer, size_t answer_len);
+uint8_t ulb_block(const uint8_t *state, size_t state_len, const uint8_t *rom, size_t rom_len, const uint8_t *ram,
+                  size_t ram_len, uint32_t block, uint8_t *answer, size_t answer_len);
+
+/* Where the shown picture starts, counted through A and then B: 0 or 49,152. Answer: 5 bytes. Refusals: 2, 3, 2. */
+uint8_t ulb_shown_picture(const uint8_t *state, size_t state_len, const uint8_t *a, size_t a_len, const uint8_t *b,
+                          size_t b_len, uint8_t *answer, size_t answer_len);
+
+/* The still picture: RAM page 0 (48K) or 5 (128K) painted whole, with flash 0 or 1. Lend neither A nor B.
+ * Refusals: 2, 3, 2, 8. */
+uint8_t ulb_still_picture(const uint8_t *state, size_t state_len, const uint8_t *ram, size_t ram_len,
+                          uint8_t *picture, size_t picture_len, uint32_t flash);
+
+/* The five address helpers and the colour of three bits. Answer: 5 bytes. Refusals: 2, 8.
+ * Ranges: line 0..191; bitmap offset 0..17FFh; attribute offset 1800h..1AFFh; colour 0..7. */
+uint8_t ulb_bitmap_line_addr(uint32_t line, uint8_t *answer, size_t answer_len);
+uint8_t ulb_bitmap_line_rel(uint32_t addr, uint8_t *answer, size_t answer_len);
+uint8_t ulb_bitmap_col_rel(uint32_t addr, uint8_t *answer, size_t answer_len);
+uint8_t ulb_attr_row_rel(uint32_t addr, uint8_t *answer, size_t answer_len);
+uint8_t ulb_attr_col_rel(uint32_t addr, uint8_t *answer, size_t answer_len);
+uint8_t ulb_color_from_bits(uint32_t bits, uint8_t *answer, size_t answer_len);
+
+#ifdef __cplusplus
+}
+#endif
+
+#endif
