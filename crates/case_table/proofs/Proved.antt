@@ -1,0 +1,61 @@
+-- Each row of the table holds: antt computes it.
+-- Assumes nothing.
+use mathlib.Core.Path.{refl}
+use Rattle.machine.specs.Timing.{delay, held, blocksAt, blocksFrom, blocksIn, borderAt, borderFrom, borderIn}
+use Rattle.memory.specs.Paging.{write7ffd}
+use Rattle.bus.specs.Time.{inCore}
+use Rattle.bus.specs.Turns.{clocksOf, turned, ran, coreAfter, andThen}
+use Rattle.bus.specs.Calls.{delayed, lastPart}
+use Rattle.case_table.specs.Rows.{rows, AllRight}
+
+pub all-right : AllRight rows
+unfolding delay held blocksAt blocksFrom blocksIn borderAt borderFrom borderIn write7ffd inCore clocksOf turned ran coreAfter andThen delayed lastPart
+all-right = (
+  refl,
+  (
+    refl,
+    (
+      refl,
+      (
+        refl,
+        (
+          refl,
+          (
+            refl,
+            (
+              refl,
+              (
+                refl,
+                (
+                  refl,
+                  (
+                    (refl, refl),
+                    (
+                      (refl, refl),
+                      (
+                        (refl, refl),
+                        (
+                          (refl, refl),
+                          (
+                            refl,
+                            (
+                              (λ passed phase paging reported ram screen edge. refl),
+                              (
+                                refl,
+                                tt,
+                              ),
+                            ),
+                          ),
+                        ),
+                      ),
+                    ),
+                  ),
+                ),
+              ),
+            ),
+          ),
+        ),
+      ),
+    ),
+  ),
+)

@@ -1,0 +1,80 @@
+-- How many frames the operations of one call close: at most one, which is what the answer's flag says.
+-- Assumes nothing.
+use Prim.Native.Nat.{ℕ, _+_, _*_, _≤_, _<_}
+use mathlib.Core.Bool.{Bool, true, false, _||_}
+use mathlib.Core.List.{List, [], _∷_}
+use mathlib.Core.Path.{_≡_, refl, _∙_}
+use native.Mathlib.Omega.{arith}
+use native.Mathlib.Nat.{mul-le-mul-left}
+use Rattle.laws.proofs.Cases.{split}
+use Rattle.machine.specs.declared.ZXMachine.{ZXMachine}
+use Rattle.machine.specs.Numbers.{specsOf}
+use Rattle.record.specs.Record.{flagByte}
+use Rattle.bus.specs.World.{Core, World}
+use Rattle.bus.specs.Time.{Op, tick, colour, paged, poke, load, unpass, closes, inCore, does}
+use Rattle.bus.specs.Turns.{clocksOf, closedBy}
+use Rattle.bus.proofs.OneStep.{frame-long, closes-at, core-closed, core-goes}
+use Rattle.bus.proofs.Runs.{clocksIn, closedIn}
+use Rattle.bus.proofs.Runs as runs
+use Rattle.history.specs.Demand.{worldAfter}
+use Rattle.history.proofs.Time.{Small, count}
+use Rattle.history.proofs.Operations.{AllSmall, closings}
+
+-- the world after operations, by crate `bus` and here, is one
+pub after-same : (m : ZXMachine) (os : List Op) (w : World) → worldAfter m os w ≡ runs.worldAfter m os w
+unfolding worldAfter runs.worldAfter
+after-same m [] w = refl
+after-same m (o ∷ os) w = after-same m os (does m o w)
+
+-- no operation is longer than all of them
+op-small : (o : Op) → clocksOf o ≤ 65541 → Small o
+unfolding clocksOf
+op-small (tick n) h = h
+op-small (colour k) h = tt
+op-small (paged v) h = tt
+op-small (poke i v) h = tt
+op-small (load p bytes) h = tt
+op-small unpass h = tt
+
+pub all-small : (os : List Op) → clocksIn os ≤ 65541 → AllSmall os
+unfolding clocksIn
+all-small [] h = tt
+all-small (o ∷ os) h = (op-small o (omega arith), all-small os (omega arith))
+
+module _ (m : ZXMachine) where
+  -- each closing takes a frame's clocks away
+  tick-sum : (n : ℕ) (c : Core) (b : Bool) → closes m n c ≡ b → inCore m (tick n) c .clock + specsOf m .frame * count (closes m n c) ≡ c .clock + n
+  tick-sum n c true e = let k = closes-at m n c e in rw (core-closed m n c e, e) (omega arith)
+  tick-sum n c false e = rw (core-goes m n c e, e) (omega arith)
+
+  op-sum : (o : Op) (c : Core) → inCore m o c .clock + specsOf m .frame * count (closedBy m o c) ≡ c .clock + clocksOf o
+  unfolding inCore closedBy clocksOf
+  op-sum (tick n) c = tick-sum n c (closes m n c) refl
+  op-sum (colour k) c = omega arith
+  op-sum (paged v) c = omega arith
+  op-sum (poke i v) c = omega arith
+  op-sum (load p bytes) c = omega arith
+  op-sum unpass c = omega arith
+
+  -- so closings are few where clocks are
+  frames-within : (os : List Op) (c : Core) → specsOf m .frame * closings m os c ≤ c .clock + clocksIn os
+  unfolding closings clocksIn
+  frames-within [] c = omega arith
+  frames-within (o ∷ os) c = omega (arith, op-sum o c, frames-within os (inCore m o c))
+
+  -- A call closes at most one frame.
+  pub one-closing : (os : List Op) (c : Core) → c .clock < specsOf m .frame → clocksIn os ≤ 65541 → closings m os c ≤ 1
+  one-closing os c h k =
+      let f = frame-long m in
+      let g = frames-within os c in
+      split (closings m os c) 1 (λ p. p) (λ p. let two = mul-le-mul-left (specsOf m .frame) p in absurd (omega arith))
+
+  flag-or : (a b : Bool) (n : ℕ) → count a + n ≤ 1 → (n ≤ 1 → flagByte b ≡ n) → flagByte (a || b) ≡ count a + n
+  flag-or true b n h f = omega arith
+  flag-or false b n h f = f (omega arith) ∙ omega arith
+
+  -- "frame closed 0/1" is how many frames were closed.
+  pub closed-flag : (os : List Op) (c : Core) → closings m os c ≤ 1 → flagByte (closedIn m os c) ≡ closings m os c
+  unfolding closings closedIn
+  closed-flag [] c h = refl
+  closed-flag (o ∷ os) c h = flag-or (closedBy m o c) (closedIn m os (inCore m o c)) (closings m os (inCore m o c)) h (closed-flag os (inCore m o c))
