@@ -1,0 +1,109 @@
+-- In Rust a subtraction below 0 and an index past the end panic too. The definitions write them plainly, as `-`, `getD` and `set`; here each that
+-- no test right before it guards is shown to stay in range on related states, so that what is plain in the definitions never panics either.
+-- Assumes nothing.
+use mathlib.Core.Path.{_≡_, refl, ap, _∙_}
+use mathlib.Core.List.{List}
+use Prim.Native.Nat.{ℕ, _+_, _-_, _*_, _/_, _%_, _<_, _≤_}
+use native.Mathlib.Omega.{arith}
+use lib.Dec.{lit<}
+use lib.ListN.{length}
+use Rattle.laws.proofs.Cases.{by-bool}
+use Rattle.machine.specs.declared.ZXMachine.{ZXMachine}
+use Rattle.machine.specs.declared.ZXMachine.the-variants.{Sinclair48K, Sinclair128K}
+use Rattle.machine.specs.declared.BorderPlace.{BorderPlace}
+use Rattle.machine.specs.declared.BorderPlace.the-variants.{At, FrameEnd}
+use Rattle.machine.specs.Numbers.{specsOf}
+use Rattle.machine.specs.Timing.{borderAt}
+use Rattle.machine.proofs.Bounds.{Within, border-within, position-small}
+use Rattle.machine.proofs.Numbered.{regular}
+use Rattle.machine.proofs.Rising.{blocks-mono}
+use Rattle.screen.specs.Address.{lineOf}
+use Rattle.memory.specs.declared.Page.{Page}
+use Rattle.memory.specs.declared.Page.the-variants as page
+use Rattle.memory.specs.Paging.{bitSet, memoryMap, pageAt}
+use Rattle.memory.specs.Memory.{Holds}
+use Rattle.memory.proofs.Places.{map-holds}
+use Rattle.offsets.specs.Offset.{lineStart}
+use Rattle.bus.specs.World.{World}
+use Rattle.rustzx.specs.Memory.{ZXMemory, pageSize, getPage}
+use Rattle.rustzx.specs.Screen.{fromClocks, blockIndex, activeBankOf}
+use Rattle.rustzx.specs.Border.{nextBorderPixel, screenWidth}
+use Rattle.rustzx.specs.Controller.{ZXController, floatingColumn}
+use Rattle.rustzx.specs.Related.{memoryOf, activeOf, Related}
+use Rattle.rustzx.proofs.Timing.{blocks-are, nextOf, border-is}
+use Rattle.rustzx.proofs.Screens.{active-mirrors}
+
+-- memory: the page's entry of the map, and the byte behind it
+abbrev pub Inside : ZXMemory → Page → ℕ → Type 0
+Inside mem (page.Rom p) offset = p * pageSize + offset < length (mem .rom)
+Inside mem (page.Ram p) offset = p * pageSize + offset < length (mem .ram)
+
+four : (m : ZXMachine) (paging : ℕ) → length (memoryMap m paging) ≡ 4
+four Sinclair48K paging = refl
+four Sinclair128K paging = refl
+
+held-inside : (mem : ZXMemory) (p : Page) (offset : ℕ) → offset < 16384 → Holds p (length (mem .rom)) (length (mem .ram)) → Inside mem p offset
+held-inside mem (page.Rom p) offset h k = omega arith
+held-inside mem (page.Ram p) offset h k = omega arith
+
+module _ (m : ZXMachine) (rom : List ℕ) (c : ZXController) (w : World) (r : Related m rom c w) where
+  -- `self.map[addr / PAGE_SIZE]`, of an address of 16 bits
+  pub map-in-range : (addr : ℕ) → addr < 65536 → addr / pageSize < length (c .memory .map)
+  map-in-range addr h =
+      let e : length (c .memory .map) ≡ 4 = ap (λ (mem : ZXMemory). length (mem .map)) (r .memory) ∙ four m (w .core .paging) in
+      omega arith
+
+  -- `self.rom[..]` and `self.ram[..]` of read and write
+  pub byte-in-range : (addr : ℕ) → Inside (c .memory) (getPage (c .memory) addr) (addr % pageSize)
+  byte-in-range addr =
+      rw (r .memory)
+      (held-inside (memoryOf m rom (w .core)) (pageAt m (w .core .paging) (addr / 16384)) (addr % 16384) (omega arith)
+      (rw (r .romLong, r .ramLong) (map-holds m (w .core .paging) (addr / 16384))))
+
+  -- passed_from: no difference goes below 0, whichever arm is taken, at any clock that wait_internal comes to
+  pub passed-in-range : (n : ℕ)
+      → (c .screen .lastBlocks .columns ≤ 32)
+      × (fromClocks m (c .frameClocks + n) .lines ≡ c .screen .lastBlocks .lines → c .screen .lastBlocks .columns ≤ fromClocks m (c .frameClocks + n) .columns)
+  passed-in-range n =
+      let t : ℕ = w .core .clock + n in
+      let e = blocks-are m t in
+      let up = blocks-mono (specsOf m) (regular m .wide) (w .core .clock) t (omega arith) in
+      let old = r .inStep .painted in
+      let at = r .screen .position in
+      (r .screen .columns, rw (r .clock) (λ same. omega (arith, e .lines, e .columns)))
+
+  -- the loop over blocks stays in the 6,144 cells of the active bank's bitmap and the 768 of its attributes
+  pub blocks-in-range : (n k : ℕ) → k < blockIndex (fromClocks m (c .frameClocks + n))
+      → (k < length (activeBankOf (c .screen) .bitmap)) × (k / 256 * 32 + k % 32 < length (activeBankOf (c .screen) .attributes))
+  blocks-in-range n k h =
+      let mi = active-mirrors m (c .screen) (w .core .paging) (w .core .ram) (r .screen .active) (r .screen .mirrored) in
+      let e = blocks-are m (c .frameClocks + n) in
+      let small = position-small (specsOf m) (c .frameClocks + n) in
+      let l : k < 6144 = omega (arith, e .lines, e .columns) in
+      (rw (mi .bitmapLong) l, rw (mi .attributesLong) (omega arith))
+
+  -- `self.banks[self.active_bank]`
+  pub bank-in-range : c .screen .activeBank < 2
+  bank-in-range = rw (r .screen .active) (below-two m) where
+    below-two : (n : ZXMachine) → activeOf n (w .core .paging) < 2
+    below-two Sinclair48K = lit< tt
+    below-two Sinclair128K = by-bool (λ (x : ℕ). x < 2) (bitSet 3 (w .core .paging)) (λ e. lit< tt) (λ e. lit< tt)
+
+-- update: the cells that it stores to
+pub bitmap-cell-in-range : (rel : ℕ) → rel ≤ 0x17FF → lineOf rel * 32 + rel % 32 < 6144
+bitmap-cell-in-range rel h = omega arith
+
+pub attribute-cell-in-range : (rel : ℕ) → 0x1800 ≤ rel → rel ≤ 0x1AFF → (rel - 0x1800) / 32 * 32 + (rel - 0x1800) % 32 < 768
+attribute-cell-in-range rel h k = omega arith
+
+-- the border's fills end at or before the last of its 320 x 240 pixels
+next-small : (place : BorderPlace) → Within place → nextOf place .line * screenWidth + nextOf place .pixel ≤ 76800
+next-small (At line pixel) i = omega (arith, i)
+next-small FrameEnd i = omega arith
+
+pub fills-in-range : (m : ZXMachine) (t : ℕ) → nextBorderPixel m t .line * screenWidth + nextBorderPixel m t .pixel ≤ 76800
+fills-in-range m t = rw (border-is m t) (next-small (borderAt (specsOf m) t) (border-within (specsOf m) t))
+
+-- the floating bus: the address that it reads fits 16 bits
+pub floating-in-range : (row r : ℕ) → row < 192 → r < 124 → (0x4000 + lineStart row + floatingColumn r < 65536) × (0x5800 + (row / 8 * 32 + floatingColumn r) < 65536)
+floating-in-range row r h k = (omega arith, omega arith)

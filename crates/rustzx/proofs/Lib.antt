@@ -1,0 +1,15 @@
+pub mod Loops
+pub mod Timing
+pub mod Helpers
+pub mod Borders
+pub mod Screens
+pub mod Pages
+pub mod Banks
+pub mod Steps
+pub mod Stores
+pub mod Starts
+pub mod PortReads
+pub mod PortCalls
+pub mod Demand
+pub mod InRange
+pub mod EveryState

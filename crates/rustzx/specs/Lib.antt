@@ -1,0 +1,11 @@
+pub mod Panics
+pub mod Machine
+pub mod Addresses
+pub mod Colors
+pub mod Memory
+pub mod Screen
+pub mod Border
+pub mod Controller
+pub mod Related
+pub mod Pokes
+pub mod Calls

@@ -1,0 +1,30 @@
+-- A run of the Rust ends with a value or panics; an `assert!` that fails panics.
+-- Assumes nothing.
+use mathlib.Core.Path.{_≡_}
+use mathlib.Core.Bool.{Bool, true, false}
+use Prim.Native.Nat.{ℕ, zero, suc}
+
+pub data Run (A : Type 0) : Type 0 where
+  done : A → Run A
+  panics : Run A
+
+-- one statement and then the next
+abbrev pub andThen : {A B : Type 0} → Run A → (A → Run B) → Run B
+andThen (done a) f = f a
+andThen panics f = panics
+
+-- assert!(test)
+abbrev pub assert : {A : Type 0} → Bool → Run A → Run A
+assert true r = r
+assert false r = panics
+
+-- for i in from..from + n { .. }
+unfoldable pub each : {A : Type 0} → ℕ → ℕ → (ℕ → A → A) → A → A
+each from zero f a = a
+each from (suc n) f a = each (suc from) n f (f from a)
+
+-- a run that ends with a value, of which something holds
+pub record Ends {A : Type 0} (r : Run A) (P : A → Type 0) : Type 0 where
+  pub value : A
+  pub ends : r ≡ done value
+  pub holds : P value

@@ -1,0 +1,90 @@
+-- When a state of the Rust and a world of document 01 are the same machine seen twice: the relation that every call keeps.
+-- Assumes nothing.
+use Prim.Native.Nat.{ℕ, _+_, _*_, _%_, _<_, _≤_}
+use mathlib.Core.Path.{_≡_}
+use mathlib.Core.Bool.{Bool, true, false, cond, not}
+use mathlib.Core.List.{List}
+use lib.ListN.{length, getD}
+use Rattle.machine.specs.declared.ZXMachine.{ZXMachine}
+use Rattle.machine.specs.declared.ZXMachine.the-variants.{Sinclair48K, Sinclair128K}
+use Rattle.machine.specs.Numbers.{specsOf}
+use Rattle.machine.specs.Timing.{blockPosition, frameEnd}
+use Rattle.offsets.specs.Offset.{offsetOf}
+use Rattle.screen.specs.Color.{attributeOf}
+use Rattle.border.specs.Edge.{Edge}
+use Rattle.memory.specs.Paging.{bitSet, memoryMap, shownPage}
+use Rattle.memory.specs.Memory.{ramPage}
+use Rattle.bus.specs.World.{Core, Screen, World}
+use Rattle.bus.specs.Time.{flashOn, shownPicture, hiddenPicture}
+use Rattle.rustzx.specs.Colors.{colorByte}
+use Rattle.rustzx.specs.Memory.{ZXMemory}
+use Rattle.rustzx.specs.Screen.{ScreenBank, ZXScreen, blackAttribute, blockIndex}
+use Rattle.rustzx.specs.Border.{ZXBorder, screenWidth}
+use Rattle.rustzx.specs.Controller.{ZXController}
+
+-- "RAM is the sole store of video bytes; the Rust's mirrored banks equal it": the bitmap in raster order, the attributes taken apart
+pub record Mirrors (b : ScreenBank) (page : List ℕ) : Type 0 where
+  pub bitmapLong : length (b .bitmap) ≡ 6144
+  pub attributesLong : length (b .attributes) ≡ 768
+  pub bitmap : (k : ℕ) → k < 6144 → getD (b .bitmap) k 0 ≡ getD page (offsetOf k) 0
+  pub attributes : (j : ℕ) → j < 768 → getD (b .attributes) j blackAttribute ≡ attributeOf (getD page (0x1800 + j) 0)
+
+-- each bank that a machine uses, and its page
+abbrev pub Mirrored : ZXMachine → ScreenBank → ScreenBank → List ℕ → Type 0
+Mirrored Sinclair48K bank0 bank1 ram = Mirrors bank0 (ramPage 0 ram)
+Mirrored Sinclair128K bank0 bank1 ram = Mirrors bank0 (ramPage 5 ram) × Mirrors bank1 (ramPage 7 ram)
+
+-- the bank of the shown page
+abbrev pub activeOf : ZXMachine → ℕ → ℕ
+activeOf Sinclair48K paging = 0
+activeOf Sinclair128K paging = cond (bitSet 3 paging) 1 0
+
+-- the screen: `last_blocks` is the painted count, the frame counter modulo 32 the phase, `buffer` the shown picture and `back_buffer` the hidden one
+pub record SameScreen (m : ZXMachine) (s : ZXScreen) (c : Core) (w : Screen) : Type 0 where
+  pub position : blockIndex (s .lastBlocks) ≡ w .painted
+  pub columns : s .lastBlocks .columns ≤ 32
+  pub counter : s .frameCounter % 32 ≡ c .phase
+  pub flash : s .flash ≡ flashOn (c .phase)
+  pub shown : s .buffer ≡ shownPicture c w
+  pub hidden : s .backBuffer ≡ hiddenPicture c w
+  pub active : s .activeBank ≡ activeOf m (c .paging)
+  pub mirrored : Mirrored m (s .bank0) (s .bank1) (c .ram)
+
+-- the border: the beam stands at twice the pairs; where `border_changed` is false it stands at 0
+pub record SameBorder (b : ZXBorder) (e : Edge) : Type 0 where
+  pub pixels : b .buffer ≡ e .pixels
+  pub beam : b .beamLast .line * screenWidth + b .beamLast .pixel ≡ 2 * e .pairs
+  pub colour : colorByte (b .beamLast .color) ≡ e .colour
+  pub blocked : b .beamBlock ≡ e .blocked
+  pub unchanged : b .borderChanged ≡ false → e .pairs ≡ 0
+
+-- the memory: the lent ROM, the RAM, and the map that the 7FFD byte decides
+abbrev pub memoryOf : ZXMachine → List ℕ → Core → ZXMemory
+memoryOf m rom c = record { rom = rom; ram = c .ram; map = memoryMap m (c .paging) }
+
+-- paging is open on 128K until bit 5 of a 7FFD byte locks it
+abbrev pub pagingOpen : ZXMachine → ℕ → Bool
+pagingOpen Sinclair48K paging = false
+pagingOpen Sinclair128K paging = not (bitSet 5 paging)
+
+-- Of soundness (crate `record`, specs/Sound) these clauses are used, and no other: what is proved of related states holds wherever a world is sound.
+pub record InStep (m : ZXMachine) (w : World) : Type 0 where
+  pub phase : w .core .phase < 32
+  pub painted : w .screen .painted ≤ blockPosition (specsOf m) (w .core .clock)
+  pub atEnd : w .edge .blocked ≡ true → frameEnd (specsOf m) (w .core .clock) ≡ true
+  pub noPairs : w .edge .blocked ≡ true → w .edge .pairs ≡ 0
+
+pub record Related (m : ZXMachine) (rom : List ℕ) (c : ZXController) (w : World) : Type 0 where
+  pub machine : c .machine ≡ m
+  pub memory : c .memory ≡ memoryOf m rom (w .core)
+  pub screen : SameScreen m (c .screen) (w .core) (w .screen)
+  pub border : SameBorder (c .border) (w .edge)
+  pub reported : colorByte (c .borderColor) ≡ w .core .reported
+  pub clock : c .frameClocks ≡ w .core .clock
+  pub passed : c .passedFrames ≡ w .core .passed
+  pub enabled : c .pagingEnabled ≡ pagingOpen m (w .core .paging)
+  pub bank : c .screenBank ≡ shownPage m (w .core .paging)
+  pub port : c .currentPort7ffd ≡ w .core .paging
+  pub ramLong : length (w .core .ram) ≡ specsOf m .ram
+  pub romLong : length rom ≡ specsOf m .rom
+  pub inStep : InStep m w
