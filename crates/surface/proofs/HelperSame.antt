@@ -1,0 +1,60 @@
+-- The helpers of the C surface are the Rust's, and refusal 8 stands exactly where the Rust panics; and every sound record has a state of the Rust.
+-- Assumes nothing.
+use Prim.Native.Nat.{ℕ}
+use mathlib.Core.Path.{_≡_, refl, ap}
+use mathlib.Core.List.{List}
+use lib.ListN.{length}
+use borrow.Author.Tests.{eq-eqb}
+use Rattle.machine.specs.Numbers.{specsOf}
+use Rattle.record.specs.declared.Bus.{Bus}
+use Rattle.record.specs.Sound.{Sound}
+use Rattle.screen.specs.declared.Helped.{Helped}
+use Rattle.screen.specs.declared.Helped.the-variants as helped
+use Rattle.screen.specs.declared.Colored.{Colored}
+use Rattle.screen.specs.declared.Colored.the-variants as colored
+use Rattle.screen.specs.Address.{lineAddress, lineAt, columnAt, attributeRow, attributeColumn}
+use Rattle.screen.specs.Color as color
+use Rattle.ulb.specs.Timed.{Lent, lentWorld}
+use Rattle.ulb.specs.Helpers as ulb
+use Rattle.ulb.specs.Helpers.{helperCall, colorHelped}
+use Rattle.rustzx.specs.Panics.{done, andThen}
+use Rattle.rustzx.specs.Addresses as rust
+use Rattle.rustzx.specs.Colors.{fromBits, colorByte}
+use Rattle.rustzx.specs.Related.{Related}
+use Rattle.rustzx.proofs.Helpers.{asRun, line-address-is, line-rel-is, col-rel-is, attr-row-is, attr-col-is, coloredRun, from-bits-is, color-byte-is}
+use Rattle.rustzx.proofs.EveryState.{rustOf, every-state}
+use Rattle.surface.specs.Same.{SameHelp}
+
+helped-same : (h : Helped) (answer : List ℕ) → length answer ≡ 5 → SameHelp (asRun h) (helperCall h answer)
+unfolding helperCall
+helped-same (helped.Number n) answer e = let l = eq-eqb (length answer) 5 e in rw l (refl, refl)
+helped-same helped.OutOfRange answer e = let l = eq-eqb (length answer) 5 e in rw l refl
+
+module _ (n : ℕ) (answer : List ℕ) (long : length answer ≡ 5) where
+  pub line-addr-same : SameHelp (rust.bitmapLineAddr n) (ulb.bitmapLineAddr n answer)
+  line-addr-same = rw (line-address-is n) (helped-same (lineAddress n) answer long)
+
+  pub line-rel-same : SameHelp (rust.bitmapLineRel n) (ulb.bitmapLineRel n answer)
+  line-rel-same = rw (line-rel-is n) (helped-same (lineAt n) answer long)
+
+  pub col-rel-same : SameHelp (rust.bitmapColRel n) (ulb.bitmapColRel n answer)
+  col-rel-same = rw (col-rel-is n) (helped-same (columnAt n) answer long)
+
+  pub attr-row-same : SameHelp (rust.attrRowRel n) (ulb.attrRowRel n answer)
+  attr-row-same = rw (attr-row-is n) (helped-same (attributeRow n) answer long)
+
+  pub attr-col-same : SameHelp (rust.attrColRel n) (ulb.attrColRel n answer)
+  attr-col-same = rw (attr-col-is n) (helped-same (attributeColumn n) answer long)
+
+  by-colored : (c : Colored) → andThen (coloredRun c) (λ x. done (colorByte x)) ≡ asRun (colorHelped c)
+  by-colored (colored.Color c) = ap done (color-byte-is c)
+  by-colored colored.OutOfRange = refl
+
+  -- from_bits, its colour by its number
+  pub from-bits-same : SameHelp (andThen (fromBits n) (λ x. done (colorByte x))) (ulb.colorFromBits n answer)
+  from-bits-same = rw (from-bits-is n, by-colored (color.fromBits n)) (helped-same (colorHelped (color.fromBits n)) answer long)
+
+-- EVERY ACCEPTED CALL HAS A STATE OF THE RUST TO BE COMPARED WITH: the slices of any sound record, with RAM and ROM of the machine's lengths.
+pub some-state : (bus : Bus) (l : Lent) (rom : List ℕ) → Sound bus → length (l .ram) ≡ specsOf (bus .machine) .ram → length rom ≡ specsOf (bus .machine) .rom
+    → Related (bus .machine) rom (rustOf (bus .machine) rom (lentWorld bus l)) (lentWorld bus l)
+some-state bus l rom s ram-long rom-long = every-state (bus .machine) rom (lentWorld bus l) s ram-long rom-long

@@ -1,0 +1,3 @@
+pub mod TimedSame
+pub mod PlainSame
+pub mod HelperSame

@@ -1,0 +1,116 @@
+-- The waits, the port read and the port write of the C surface are the Rust's.
+-- Assumes nothing.
+use Prim.Native.Nat.{ℕ, _<_}
+use mathlib.Core.Path.{_≡_, refl, ap, subst}
+use mathlib.Core.Bool.{true}
+use mathlib.Core.List.{List, [], _∷_}
+use native.Mathlib.Omega.{arith}
+use lib.Dec.{ltb}
+use lib.ListN.{length}
+use borrow.Author.Tests.{ltb-true}
+use Rattle.laws.proofs.Conjunction.{each}
+use Rattle.machine.specs.declared.ZXMachine.{ZXMachine}
+use Rattle.machine.specs.Timing.{interrupt}
+use Rattle.record.specs.declared.Bus.{Bus}
+use Rattle.ports.specs.Devices.{devicesOf, flagsOf, byteAt}
+use Rattle.bus.specs.World.{Core, World}
+use Rattle.bus.specs.Turns.{Turn, Part, fresh, ranBy}
+use Rattle.bus.specs.Calls.{plainWait, addressWait, portRead, readValue, portWrite, writeCode}
+use Rattle.bus.proofs.Runs.{ran-machine}
+use Rattle.bus.proofs.Kept.{SoundWorld}
+use Rattle.bus.proofs.TimedCalls.{Timed, plain-timed, address-timed, read-timed, write-timed}
+use Rattle.answers.specs.declared.Verdict.{Verdict}
+use Rattle.answers.specs.declared.Verdict.the-variants.{Accepted}
+use Rattle.answers.proofs.Accepted.{ready-wait, ready-port}
+use Rattle.ulb.specs.Timed as ulb
+use Rattle.ulb.specs.Timed.{Lent, lentBy, lentWorld, timed, noValue, judgeWaitOf, judgePortOf}
+use Rattle.rustzx.specs.Controller.{ZXController}
+use Rattle.rustzx.specs.Related.{Related}
+use Rattle.rustzx.specs.Calls.{Call, waitInternal, waitMreq, waitNoMreq, readIo, writeIo, Given, partOf, answerOf}
+use Rattle.rustzx.specs.Calls as rust
+use Rattle.rustzx.proofs.Demand.{call-agrees, reports-agree}
+use Rattle.surface.specs.Same.{NoValue, ItsValue, ItsCode, SameTimed}
+
+module _ (l : Lent) (bus : Bus) (rom : List ℕ) (c : ZXController) (r : Related (bus .machine) rom c (lentWorld bus l)) where
+  abbrev m : ZXMachine
+  m = bus .machine
+
+  abbrev w : World
+  w = lentWorld bus l
+
+  -- any timed call: what the definition of the C call says when it is accepted, beside the Rust's
+  same-timed : (k : Call) (Valued : Given → ℕ → Type 0) (part : ZXMachine → Part) (value : ZXMachine → Core → ℕ) (answer : List ℕ) (v : Verdict) → v ≡ Accepted bus
+      → Timed m (part m) → partOf m k ≡ part m → SoundWorld m w → rust.Accepted m k w
+      → ((g : Given) → g .answer ≡ answerOf m rom k w → Valued g (value m (w .core)))
+      → SameTimed m rom k Valued c (timed part value l answer v)
+  unfolding timed
+  same-timed k Valued part value answer v e t same sound a f =
+      let turn : Turn = ranBy (part m) (fresh m w) in
+      let g = call-agrees m rom c w r k sound a in
+      let there : Related m rom (g .value .controller) (turn .world) =
+      subst (λ (p : Part). Related m rom (g .value .controller) (ranBy p (fresh m w) .world)) same (g .holds .1) in
+      rw e
+      (record {
+        given = g .value;
+        world = turn .world;
+        value = value m (w .core);
+        clocks = turn .clocks;
+        blocks = turn .blocks;
+        closed = turn .closed;
+        int = interrupt (turn .world .core .clock);
+        ends = g .ends;
+        related = there;
+        code = refl;
+        slices = ap (λ (n : ZXMachine). lentBy n (turn .world)) (ran-machine (part m (w .core)) (fresh m w));
+        answer = refl;
+        valued = f (g .value) (g .holds .0);
+        byRust = reports-agree m rom (part m) t c (g .value .controller) w sound r there;
+      })
+
+  -- ULB_WAIT_INTERNAL is wait_internal.
+  pub wait-same : (n : ℕ) (answer : List ℕ) → judgeWaitOf l n answer ≡ Accepted bus → SameTimed m rom (waitInternal n) NoValue c (ulb.waitInternal l n answer)
+  unfolding ulb.waitInternal partOf
+  wait-same n answer e =
+      let h = ready-wait (l .state) bus (length (l .ram)) (length (l .a)) (length (l .b)) (length (l .border)) n (length answer) e in
+      same-timed (waitInternal n) NoValue (λ k. plainWait n) noValue answer (judgeWaitOf l n answer) e
+      (plain-timed m n (omega (arith, h .short))) refl (h .onRecord .sound) (h .short, h .room) (λ g q. refl)
+
+  -- ULB_WAIT_MREQ is wait_mreq, and ULB_WAIT_NO_MREQ wait_no_mreq.
+  pub mreq-same : (addr n : ℕ) (answer : List ℕ) → judgeWaitOf l n answer ≡ Accepted bus → SameTimed m rom (waitMreq addr n) NoValue c (ulb.waitAt l addr n answer)
+  unfolding ulb.waitAt partOf
+  mreq-same addr n answer e =
+      let h = ready-wait (l .state) bus (length (l .ram)) (length (l .a)) (length (l .b)) (length (l .border)) n (length answer) e in
+      same-timed (waitMreq addr n) NoValue (λ k. addressWait k addr n) noValue answer (judgeWaitOf l n answer) e
+      (address-timed m addr n (h .short)) refl (h .onRecord .sound) (h .short, h .room) (λ g q. refl)
+
+  pub no-mreq-same : (addr n : ℕ) (answer : List ℕ) → judgeWaitOf l n answer ≡ Accepted bus → SameTimed m rom (waitNoMreq addr n) NoValue c (ulb.waitAt l addr n answer)
+  unfolding ulb.waitAt partOf
+  no-mreq-same addr n answer e =
+      let h = ready-wait (l .state) bus (length (l .ram)) (length (l .a)) (length (l .b)) (length (l .border)) n (length answer) e in
+      same-timed (waitNoMreq addr n) NoValue (λ k. addressWait k addr n) noValue answer (judgeWaitOf l n answer) e
+      (address-timed m addr n (h .short)) refl (h .onRecord .sound) (h .short, h .room) (λ g q. refl)
+
+  -- a tape bit that passed the flags' test is 0 or 1
+  tape-small : (devices : List ℕ) → flagsOf devices ≡ true → devicesOf devices .tape < 2
+  unfolding devicesOf
+  tape-small devices e =
+      ltb-true (byteAt devices 24) 2
+      (each (ltb (byteAt devices 24) 2) (ltb (byteAt devices 25) 2 ∷ ltb (byteAt devices 27) 2 ∷ ltb (byteAt devices 29) 2 ∷ ltb (byteAt devices 31) 2 ∷ []) e 0)
+
+  -- ULB_READ_IO is read_io, its value among the answer's bytes.
+  pub read-same : (devices : List ℕ) (port : ℕ) (answer : List ℕ) → judgePortOf l devices answer ≡ Accepted bus
+      → SameTimed m rom (readIo (devicesOf devices) port) ItsValue c (ulb.readIo l devices port answer)
+  unfolding ulb.readIo partOf answerOf
+  read-same devices port answer e =
+      let h = ready-port (l .state) bus devices (length (l .ram)) (length (l .a)) (length (l .b)) (length (l .border)) (length answer) e in
+      same-timed (readIo (devicesOf devices) port) ItsValue (λ k. portRead k port) (λ k. readValue k (devicesOf devices) port) answer (judgePortOf l devices answer) e
+      (read-timed m port) refl (h .onRecord .sound) (tape-small devices (h .flags), h .room) (λ g q. q)
+
+  -- ULB_WRITE_IO is write_io, with a byte for its value.
+  pub write-same : (devices : List ℕ) (port value : ℕ) (answer : List ℕ) → value < 256 → judgePortOf l devices answer ≡ Accepted bus
+      → SameTimed m rom (writeIo (devicesOf devices) port value) (ItsCode (writeCode m (devicesOf devices) port value (w .core))) c (ulb.writeIo l devices port value answer)
+  unfolding ulb.writeIo partOf
+  write-same devices port value answer byte e =
+      let h = ready-port (l .state) bus devices (length (l .ram)) (length (l .a)) (length (l .b)) (length (l .border)) (length answer) e in
+      same-timed (writeIo (devicesOf devices) port value) (ItsCode (writeCode m (devicesOf devices) port value (w .core))) (λ k. portWrite k (devicesOf devices) port value) (λ k. writeCode k (devicesOf devices) port value) answer (judgePortOf l devices answer) e
+      (write-timed m (devicesOf devices) port value byte) refl (h .onRecord .sound) (byte, h .room) (λ g q. refl)

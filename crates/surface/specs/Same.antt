@@ -1,0 +1,70 @@
+-- When a call of the C surface and a call of the Rust are the same: what the slices hold at exit is what the Rust holds, and the answer's bytes
+-- are what the Rust answers and how its state moved.
+-- Assumes nothing.
+use Prim.Native.Nat.{ℕ}
+use mathlib.Core.Path.{_≡_}
+use mathlib.Core.Bool.{Bool}
+use mathlib.Core.List.{List, [], _∷_}
+use Rattle.machine.specs.declared.ZXMachine.{ZXMachine}
+use Rattle.bus.specs.World.{World}
+use Rattle.answers.specs.Answers.{timedAnswer, numberAnswer}
+use Rattle.ulb.specs.Timed.{Outcome, lentBy}
+use Rattle.ulb.specs.Plain.{Told}
+use Rattle.rustzx.specs.Panics.{Run, done, panics}
+use Rattle.rustzx.specs.Controller.{ZXController}
+use Rattle.rustzx.specs.Related.{Related}
+use Rattle.rustzx.specs.Calls.{Call, Given, performed, TimedByRust}
+
+-- "value or code (0 for a wait)": a read's value is the Rust's answer; a write's code is document 01's own, as the Rust answers a write nothing
+abbrev pub NoValue : Given → ℕ → Type 0
+NoValue g value = value ≡ 0
+
+abbrev pub ItsValue : Given → ℕ → Type 0
+ItsValue g value = g .answer ≡ value ∷ []
+
+abbrev pub ItsCode : ℕ → Given → ℕ → Type 0
+ItsCode code g value = value ≡ code
+
+-- an accepted timed call: the Rust's call ends; the slices hold, byte for byte, a world that is related to what the Rust then holds, clock, RAM,
+-- both pictures and border among it; and the ten bytes of the answer are the Rust's
+pub record SameTimed (m : ZXMachine) (rom : List ℕ) (k : Call) (Valued : Given → ℕ → Type 0) (c : ZXController) (o : Outcome) : Type 0 where
+  pub given : Given
+  pub world : World
+  pub value : ℕ
+  pub clocks : ℕ
+  pub blocks : ℕ
+  pub closed : Bool
+  pub int : Bool
+  pub ends : performed k c ≡ done given
+  pub related : Related m rom (given .controller) world
+  pub code : o .code ≡ 0
+  pub slices : o .slices ≡ lentBy m world
+  pub answer : o .answer ≡ timedAnswer value closed int clocks blocks
+  pub valued : Valued given value
+  pub byRust : TimedByRust c (given .controller) clocks blocks closed int
+
+-- a call that tells a number: the number of its five bytes is the Rust's answer
+pub record SameTold (k : Call) (c : ZXController) (t : Told) : Type 0 where
+  pub given : Given
+  pub number : ℕ
+  pub ends : performed k c ≡ done given
+  pub code : t .code ≡ 0
+  pub answer : t .answer ≡ numberAnswer number
+  pub valued : given .answer ≡ number ∷ []
+
+-- a call that hands back a part: its bytes are the Rust's
+pub record SamePart (k : Call) (c : ZXController) (bytes : List ℕ) : Type 0 where
+  pub given : Given
+  pub ends : performed k c ≡ done given
+  pub valued : given .answer ≡ bytes
+
+-- a call that changes the machine and is lent a part of it only: the Rust's call ends, and what it then holds is related to the world after
+pub record SameMove (m : ZXMachine) (rom : List ℕ) (k : Call) (c : ZXController) (after : World) : Type 0 where
+  pub given : Given
+  pub ends : performed k c ≡ done given
+  pub related : Related m rom (given .controller) after
+
+-- a helper: a number that the Rust gives is the answer's, and where the Rust panics the call is refused by 8
+abbrev pub SameHelp : Run ℕ → Told → Type 0
+SameHelp (done n) t = (t .code ≡ 0) × (t .answer ≡ numberAnswer n)
+SameHelp panics t = t .code ≡ 8
