@@ -1,0 +1,12 @@
+pub mod Spelling
+pub mod Runs
+pub mod Reading
+pub mod Cutting
+pub mod Means
+pub mod Fields
+pub mod Printing
+pub mod Room
+pub mod Walking
+pub mod Reporting
+pub mod Lines
+pub mod Sample
