@@ -1,0 +1,3 @@
+//! Ours: no stub here fails.
+#[derive(Debug)]
+pub struct Error;

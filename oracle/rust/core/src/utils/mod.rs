@@ -1,0 +1,2 @@
+//! Ours: the module list.
+pub mod screen;

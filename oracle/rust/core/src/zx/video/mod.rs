@@ -1,0 +1,4 @@
+//! Ours: the module list.
+pub mod border;
+pub mod colors;
+pub mod screen;
