@@ -1,0 +1,473 @@
+/* fuzz.c: throws random lengths, records, flags and numbers at every call of ulb.h and holds each answer against reading.c.
+ *
+ *     fuzz CALLS SEED EVERY
+ *
+ * Every buffer has a guard page on both sides. Each is mapped twice, to be written and to be read only: a call that must be
+ * refused, and a slice that a call may only read, gets the second, so that a write which should not be is a fault. Faults are
+ * reported with the call. After an accepted call its answer and the record are compared; all memory is compared after every
+ * EVERY calls (256 unless said). Last line: `fuzz: N calls, 0 differences`; exit status 1 at the first difference. */
+#define _GNU_SOURCE
+#include <signal.h>
+#include <stdio.h>
+#include <stdlib.h>
+#include <string.h>
+#include <sys/mman.h>
+#include <unistd.h>
+#include "reading.h"
+#include "ulb.h"
+
+/* ---- Random numbers: the same for a seed on every machine --------------------------------------------------------- */
+
+static uint64_t dice;
+
+static uint32_t roll(void) {
+    uint64_t z = dice += 0x9E3779B97F4A7C15u;
+    z = (z ^ z >> 30) * 0xBF58476D1CE4E5B9u;
+    z = (z ^ z >> 27) * 0x94D049BB133111EBu;
+    return (uint32_t)(z >> 32 ^ z);
+}
+static uint32_t below(uint32_t n) { return roll() % n; }
+static bool chance(unsigned in_hundred) { return below(100) < in_hundred; }
+
+/* ---- What is going on, for a report -------------------------------------------------------------------------------- */
+
+static struct { unsigned long number; uint64_t seed; call c; uint8_t state[23]; unsigned wanted; } now;
+static unsigned long accepted[KINDS], refused[9];
+
+static void describe(void) {
+    const call_shape *shape = &shapes[now.c.kind];
+    printf("  seed %llu, call %lu: %s number %lu addr %04Xh value %02Xh, wanted %u\n  record", (unsigned long long)now.seed,
+           now.number, shape->name, (unsigned long)now.c.number, now.c.addr, now.c.value, now.wanted);
+    for (int i = 0; i < 23; i++) printf(" %02X", now.state[i]);
+    static const char *const names[SLICES] = {"state", "devices", "rom", "ram", "bytes", "picture", "a", "b", "border", "answer"};
+    printf("\n  lengths");
+    for (int s = 0; s < SLICES; s++)
+        if (shape->lent >> s & 1) printf(" %s %zu", names[s], now.c.length[s]);
+    printf("\n");
+}
+
+static void differs(const char *what, unsigned long got, unsigned long want) {
+    printf("fuzz: DIFFERENCE: %s: got %lu, want %lu\n", what, got, want);
+    describe();
+    exit(1);
+}
+
+static void fault(int signal, siginfo_t *info, void *context) {
+    (void)signal;
+    (void)context;
+    printf("fuzz: DIFFERENCE: a fault at %p: outside a slice, or a write where none may be\n", info->si_addr);
+    describe();
+    fflush(stdout);
+    _exit(1);
+}
+
+/* ---- Guarded memory ------------------------------------------------------------------------------------------------- */
+
+enum { PAGE = 4096, LONGEST = 196608 };
+
+/* `size` bytes of whole pages, seen twice, between guard pages. */
+typedef struct { uint8_t *rw, *ro; size_t size; } zone;
+
+static uint8_t *map_between(int file, size_t size, int rights) {
+    uint8_t *room = mmap(NULL, size + 2 * PAGE, PROT_NONE, MAP_PRIVATE | MAP_ANONYMOUS, -1, 0);
+    if (room == MAP_FAILED || mmap(room + PAGE, size, rights, MAP_SHARED | MAP_FIXED, file, 0) == MAP_FAILED) {
+        perror("fuzz: mmap");
+        exit(2);
+    }
+    return room + PAGE;
+}
+
+static zone make_zone(size_t bytes) {
+    zone z;
+    z.size = (bytes + PAGE - 1) / PAGE * PAGE;
+    int file = memfd_create("zone", 0);
+    if (file < 0 || ftruncate(file, (off_t)z.size) != 0) {
+        perror("fuzz: memfd");
+        exit(2);
+    }
+    z.rw = map_between(file, z.size, PROT_READ | PROT_WRITE);
+    z.ro = map_between(file, z.size, PROT_READ);
+    close(file);
+    return z;
+}
+
+/* For each slice the zone of its right length (ROM and RAM: by machine), and one for wrong lengths, only ever lent to read. */
+static zone home[2][SLICES], spare[SLICES];
+static bool at_end[SLICES]; /* the slice ends at the upper guard page, or else starts at the lower one */
+
+static void make_zones(void) {
+    for (slice s = STATE; s < SLICES; s++) {
+        home[0][s] = make_zone(right_length(s, 0, 10));
+        home[1][s] = s == ROM || s == RAM ? make_zone(right_length(s, 1, 10)) : home[0][s];
+        spare[s] = make_zone(LONGEST);
+        memset(spare[s].rw, 0xA5, LONGEST);
+    }
+}
+
+static size_t offset(const zone *z, slice s, size_t length) { return at_end[s] ? z->size - length : 0; }
+
+/* The bytes of a slice of right length, to be set or compared from here. */
+static uint8_t *own(slice s, unsigned machine, size_t length) {
+    return home[machine][s].rw + offset(&home[machine][s], s, length);
+}
+
+/* The pointer that a call gets. */
+static uint8_t *lent(const call *c, slice s, unsigned machine, bool writable) {
+    const zone *z = &home[machine][s];
+    if (c->length[s] != right_length(s, machine, shapes[c->kind].answer)) {
+        z = &spare[s];
+        writable = false;
+    }
+    return (writable ? z->rw : z->ro) + offset(z, s, c->length[s]);
+}
+
+/* ---- A session: a start and what follows --------------------------------------------------------------------------- */
+
+static world w;                 /* the reading's own memory */
+static uint8_t state[23], devices[35];
+static unsigned machine;        /* whose zones are in use */
+static bool history;            /* no record but the bus's own is accepted, so demand 3's sums must hold */
+static struct { unsigned long clocks, blocks, closed; } sum;
+
+static void scatter(uint8_t *p, size_t n) {
+    for (size_t i = 0; i + 4 <= n; i += 4) {
+        uint32_t r = roll();
+        memcpy(p + i, &r, 4);
+    }
+}
+
+static void compare(const char *what, const uint8_t *got, const uint8_t *want, size_t n) {
+    for (size_t i = 0; i < n; i++)
+        if (got[i] != want[i]) {
+            printf("fuzz: in %s, byte %zu\n", what, i);
+            differs("a byte of memory, in this call or since the last comparison", got[i], want[i]);
+        }
+}
+
+static void compare_memory(void) {
+    struct { const char *name; slice s; const uint8_t *want; } all[] = {
+        {"RAM", RAM, w.ram}, {"ROM", ROM, w.rom}, {"picture A", A, w.picture[0]}, {"picture B", B, w.picture[1]},
+        {"border", BORDER, w.border}, {"still picture", PICTURE, w.still}, {"page bytes", BYTES, w.bytes},
+    };
+    for (size_t i = 0; i < sizeof all / sizeof *all; i++) {
+        size_t n = right_length(all[i].s, machine, 0);
+        const uint8_t *got = own(all[i].s, machine, n);
+        if (memcmp(got, all[i].want, n) != 0) compare(all[i].name, got, all[i].want, n);
+    }
+}
+
+static void check_sums(void) {
+    record r;
+    if (!history || !sound(state, &r)) return;
+    if (sum.clocks != sum.closed * machines[machine].frame + r.clock)
+        differs("demand 3: clocks of the session", sum.clocks, sum.closed * machines[machine].frame + r.clock);
+    if (sum.blocks != sum.closed * 6144 + r.painted)
+        differs("demand 3: blocks of the session", sum.blocks, sum.closed * 6144 + r.painted);
+}
+
+static void new_session(void) {
+    machine = below(2);
+    history = chance(50);
+    memset(&sum, 0, sizeof sum);
+    at_end[BORDER] = chance(50);
+    call c = {START, {0}, 0, 0, 0};
+    uint8_t none[10];
+    c.number = machine;
+    scatter(w.rom, sizeof w.rom);
+    scatter(w.bytes, sizeof w.bytes);
+    scatter(w.still, sizeof w.still);
+    memcpy(own(ROM, machine, machines[machine].rom), w.rom, machines[machine].rom);
+    memcpy(own(BYTES, machine, 16384), w.bytes, 16384);
+    memcpy(own(PICTURE, machine, 49152), w.still, 49152);
+    carry_out(&c, state, devices, &w, none);
+    uint8_t *s = own(STATE, machine, 23), *ram = own(RAM, machine, machines[machine].ram), *edge = own(BORDER, machine, 76800);
+    uint8_t *a = own(A, machine, 49152), *b = own(B, machine, 49152);
+    memset(ram, 0x77, machines[machine].ram);
+    memset(edge, 0x77, 76800);
+    now.wanted = 0;
+    now.c = c;
+    uint8_t got = ulb_start(s, 23, ram, machines[machine].ram, a, 49152, b, 49152, edge, 76800, machine);
+    if (got != 0) differs("start", got, 0);
+    compare("record after a start", s, state, 23);
+    compare_memory();
+    if (chance(80)) { /* bytes that show */
+        scatter(w.ram, machines[machine].ram);
+        memcpy(ram, w.ram, machines[machine].ram);
+    }
+}
+
+/* ---- Random calls ---------------------------------------------------------------------------------------------------- */
+
+static uint32_t near(uint32_t n) { return n + below(7) - 3; }
+
+static uint32_t random_clock(const numbers *n) {
+    const uint32_t edges[] = {n->contention, n->contention + 192 * n->line, n->block, n->block + 191 * n->line + 124,
+                              n->border, n->border + 239 * n->line + 159, n->frame - 1, 31};
+    switch (below(8)) {
+        case 6:
+        case 7: return near(edges[below(sizeof edges / sizeof *edges)]) % n->frame;
+        case 0: return near(n->contention + below(193) * n->line) % n->frame;
+        case 1: return near(n->block + below(193) * n->line + 4 * below(34)) % n->frame;
+        case 2: return near(n->border + below(241) * n->line + 160) % n->frame;
+        case 3: return n->frame - 1 - below(20);
+        case 4: return below(40);
+        default: return below(n->frame);
+    }
+}
+
+/* A sound record at a clock of interest, then perhaps one thing wrong with it. */
+static void craft(uint8_t bytes[23], unsigned of, bool spoil) {
+    record r;
+    bool end;
+    const numbers *n = &machines[of];
+    r.machine = of;
+    r.clock = random_clock(n);
+    r.passed = chance(8) ? 4294967295u - below(2) : roll() >> below(32);
+    r.phase = below(32);
+    uint32_t blocks = block_position(n, r.clock), pairs = border_position(n, r.clock, &end) / 2;
+    r.painted = chance(40) ? blocks : below(blocks + 1);
+    r.paging = of == 0 ? 0 : chance(70) ? roll() & 0xDF : roll() & 0xFF;
+    r.reported = below(8);
+    r.colour = below(8);
+    r.blocked = end && chance(50);
+    r.pairs = r.blocked ? 0 : chance(40) ? pairs : below(pairs + 1);
+    if (spoil)
+        switch (below(11)) {
+            case 0: r.clock = n->frame + below(3); break;
+            case 1: r.painted = blocks + 1 + below(2); break;
+            case 2: r.pairs = pairs + 1 + below(2); break;
+            case 3: r.blocked = 1; break;
+            case 4: r.phase = 31 + below(3); break;
+            case 5: r.reported = 7 + below(3); break;
+            case 6: r.colour = 7 + below(3); break;
+            case 7: r.paging = 1u << below(8); break;
+            case 8: r.machine = 2 + below(3); break;
+            case 9: r.clock = roll(); break;
+            default: r.blocked = 2 + below(254); break;
+        }
+    encode(&r, bytes);
+    if (spoil && chance(15)) bytes[below(23)] = (uint8_t)roll();
+    if (spoil && chance(3)) scatter(bytes, 20);
+}
+
+static void random_devices(void) {
+    scatter(devices, 24);
+    for (int i = 24; i < 35; i++) devices[i] = (uint8_t)roll();
+    static const int flags[5] = {24, 25, 27, 29, 31};
+    for (int i = 0; i < 5; i++) devices[flags[i]] = chance(i == 1 ? 10 : 50);
+    if (chance(5)) devices[flags[below(5)]] = (uint8_t)(2 + below(254));
+}
+
+static uint16_t random_port(void) {
+    static const uint16_t known[] = {0x00FE, 0x7FFE, 0xFFFE, 0x40FE, 0x7FFD, 0x7FFC, 0x3FFD, 0xFFFD, 0xBFFD, 0xFADF, 0xFBDF,
+                                     0xFFDF, 0x001F, 0x40FF, 0xC0FF, 0xFFFC, 0xBFFC, 0x401F, 0xC01F, 0x00FF};
+    uint16_t port = chance(60) ? known[below(sizeof known / sizeof *known)] : (uint16_t)roll();
+    return chance(20) ? port ^ (uint16_t)(1u << below(16)) : port;
+}
+
+static uint32_t random_number(call_kind k) {
+    switch (k) {
+        case START: return chance(30) ? machine : chance(30) ? 1 - machine : chance(50) ? 2 + below(3) : roll();
+        case WAIT_INTERNAL:
+        case WAIT_MREQ:
+        case WAIT_NO_MREQ: return chance(80) ? below(30) : chance(60) ? below(9000) : chance(70) ? near(65535) : roll();
+        case LOAD_PAGE:
+        case RAM_PAGE: return chance(90) ? below(9) : roll();
+        case BLOCK: return chance(90) ? below(5) : roll();
+        case STILL_PICTURE: return chance(90) ? below(3) : roll();
+        case BITMAP_LINE_ADDR: return chance(90) ? below(194) : roll();
+        case BITMAP_LINE_REL:
+        case BITMAP_COL_REL: return chance(90) ? below(0x1804) : roll();
+        case ATTR_ROW_REL:
+        case ATTR_COL_REL: return chance(90) ? 0x17FC + below(0x308) : roll();
+        default: return chance(90) ? below(10) : roll();
+    }
+}
+
+static size_t wrong_length(size_t right) {
+    switch (below(7)) {
+        case 0: return 0;
+        case 1: return right + 1;
+        case 2: return right - 1;
+        case 3: return below(64);
+        case 4: return 16384u * below(9);
+        case 5: return right == 5 ? 10 : right == 10 ? 5 : right + 1;
+        default: return below(LONGEST + 1);
+    }
+}
+
+static call random_call(void) {
+    call c;
+    c.kind = chance(65) ? WAIT_INTERNAL + below(5) : below(KINDS);
+    if ((c.kind == LOAD_PAGE || c.kind == STILL_PICTURE) && chance(70)) c.kind = WRITE_INTERNAL;
+    c.number = random_number(c.kind);
+    c.addr = c.kind == READ_IO || c.kind == WRITE_IO ? random_port() : (uint16_t)roll();
+    c.value = (uint8_t)(chance(70) ? roll() & 0xDF : roll());
+    for (slice s = STATE; s < SLICES; s++) {
+        size_t right = right_length(s, machine, shapes[c.kind].answer);
+        c.length[s] = shapes[c.kind].lent >> s & 1 ? right : 0;
+    }
+    for (int wrongs = chance(25) ? 1 + (int)below(3) : 0; wrongs > 0; wrongs--) {
+        slice s = below(SLICES);
+        if (shapes[c.kind].lent >> s & 1) c.length[s] = wrong_length(c.length[s]);
+    }
+    return c;
+}
+
+/* The record that this call is lent: the bus's own; outside a history any other; and now and then a spoilt one. */
+static void lend_record(uint8_t bytes[23]) {
+    record r;
+    memcpy(bytes, state, 23);
+    if (history) {
+        uint8_t other[23];
+        craft(other, machine, true);
+        if (chance(5) && !sound(other, &r)) memcpy(bytes, other, 23);
+    } else if (chance(50)) {
+        craft(bytes, chance(97) ? machine : 1 - machine, chance(12));
+    }
+}
+
+/* ---- The call itself -------------------------------------------------------------------------------------------------- */
+
+static uint8_t make_call(const call *c, uint8_t *p[SLICES]) {
+#define S(s) p[s], c->length[s]
+#define LENT S(RAM), S(A), S(B), S(BORDER)
+    switch (c->kind) {
+        case START: return ulb_start(S(STATE), LENT, c->number);
+        case WAIT_INTERNAL: return ulb_wait_internal(S(STATE), LENT, c->number, S(ANSWER));
+        case WAIT_MREQ: return ulb_wait_mreq(S(STATE), LENT, c->addr, c->number, S(ANSWER));
+        case WAIT_NO_MREQ: return ulb_wait_no_mreq(S(STATE), LENT, c->addr, c->number, S(ANSWER));
+        case READ_IO: return ulb_read_io(S(STATE), S(DEVICES), LENT, c->addr, S(ANSWER));
+        case WRITE_IO: return ulb_write_io(S(STATE), S(DEVICES), LENT, c->addr, c->value, S(ANSWER));
+        case READ_INTERNAL: return ulb_read_internal(S(STATE), S(ROM), S(RAM), c->addr, S(ANSWER));
+        case WRITE_INTERNAL: return ulb_write_internal(S(STATE), S(RAM), c->addr, c->value);
+        case WRITE_7FFD: return ulb_write_7ffd(S(STATE), c->value, S(ANSWER));
+        case READ_7FFD: return ulb_read_7ffd(S(STATE), S(ANSWER));
+        case INT_ACTIVE: return ulb_int_active(S(STATE), S(ANSWER));
+        case FRAMES_COUNT: return ulb_frames_count(S(STATE), S(ANSWER));
+        case RESET_FRAME_COUNTER: return ulb_reset_frame_counter(S(STATE));
+        case LOAD_PAGE: return ulb_load_page(S(STATE), S(RAM), S(BYTES), c->number);
+        case RAM_PAGE: return ulb_ram_page(S(STATE), S(RAM), c->number, S(ANSWER));
+        case BLOCK: return ulb_block(S(STATE), S(ROM), S(RAM), c->number, S(ANSWER));
+        case SHOWN_PICTURE: return ulb_shown_picture(S(STATE), S(A), S(B), S(ANSWER));
+        case STILL_PICTURE: return ulb_still_picture(S(STATE), S(RAM), S(PICTURE), c->number);
+        case BITMAP_LINE_ADDR: return ulb_bitmap_line_addr(c->number, S(ANSWER));
+        case BITMAP_LINE_REL: return ulb_bitmap_line_rel(c->number, S(ANSWER));
+        case BITMAP_COL_REL: return ulb_bitmap_col_rel(c->number, S(ANSWER));
+        case ATTR_ROW_REL: return ulb_attr_row_rel(c->number, S(ANSWER));
+        case ATTR_COL_REL: return ulb_attr_col_rel(c->number, S(ANSWER));
+        default: return ulb_color_from_bits(c->number, S(ANSWER));
+    }
+#undef LENT
+#undef S
+}
+
+static void check_answer(const call *c, const uint8_t *got, const uint8_t *want) {
+    static const char *const timed[10] = {"refusal", "value", "closed", "interrupt", "clocks", "clocks", "clocks", "clocks",
+                                          "blocks", "blocks"};
+    for (unsigned i = 0; i < shapes[c->kind].answer; i++)
+        if (got[i] != want[i]) differs(shapes[c->kind].answer == 10 ? timed[i] : "the number's answer", got[i], want[i]);
+}
+
+static void count_up(const call *c, const uint8_t *answer) {
+    accepted[c->kind]++;
+    if (shapes[c->kind].answer != 10) return;
+    unsigned clocks = answer[4] | answer[5] << 8 | answer[6] << 16;
+    if ((c->kind == READ_IO || c->kind == WRITE_IO) && (clocks < 4 || clocks > 16)) differs("a port call's clocks", clocks, 4);
+    sum.clocks += clocks;
+    sum.blocks += answer[8] | (unsigned)answer[9] << 8;
+    sum.closed += answer[2];
+}
+
+static void one_call(void) {
+    call c = random_call();
+    uint8_t bytes[23], want[10] = {0}, *p[SLICES];
+    lend_record(bytes);
+    /* the other machine's RAM and ROM are not at hand, so its start and its record meet this machine's lengths: refusal 2 */
+    if ((c.kind == START ? c.number : bytes[5]) != machine) {
+        if (c.length[RAM] > 0) c.length[RAM] = machines[machine].ram;
+        if (c.length[ROM] > 0) c.length[ROM] = machines[machine].rom;
+    }
+    random_devices();
+    for (slice s = STATE; s < SLICES; s++)
+        if (s != BORDER) at_end[s] = chance(50);
+    memcpy(own(STATE, machine, 23), bytes, 23);
+    memcpy(own(DEVICES, machine, 35), devices, 35);
+
+    now.c = c;
+    memcpy(now.state, bytes, 23);
+    unsigned refusal = now.wanted = refusal_of(&c, bytes, devices);
+    unsigned size = shapes[c.kind].answer;
+    uint8_t *answer = own(ANSWER, machine, size);
+    memset(answer, 0xAA, size);
+    for (slice s = STATE; s < SLICES; s++) {
+        bool writes = s == ANSWER || (refusal == 0 && shapes[c.kind].written >> s & 1);
+        p[s] = lent(&c, s, machine, writes);
+    }
+    uint8_t got = make_call(&c, p);
+    if (got != refusal) differs("refusal", got, refusal);
+    if (refusal != 0) {
+        refused[refusal]++;
+        want[0] = (uint8_t)refusal;
+        if (c.length[ANSWER] == size) check_answer(&c, answer, want);
+        return;
+    }
+    carry_out(&c, bytes, devices, &w, want);
+    check_answer(&c, answer, want);
+    if (shapes[c.kind].lent & 1) {
+        compare("the record", own(STATE, machine, 23), bytes, 23);
+        memcpy(state, bytes, 23);
+    }
+    count_up(&c, answer);
+    if (c.kind == START) memset(&sum, 0, sizeof sum);
+    if (c.kind == START || c.kind == LOAD_PAGE || c.kind == STILL_PICTURE) compare_memory();
+}
+
+/* A run that never met a case would prove little: of 20,000 calls or more each must have been met. */
+static int report(unsigned long calls) {
+    unsigned long good = 0;
+    int missing = 0;
+    for (int k = 0; k < KINDS; k++) {
+        good += accepted[k];
+        if (accepted[k] == 0 && calls >= 20000) missing = printf("fuzz: %s was never accepted\n", shapes[k].name);
+    }
+    printf("accepted %lu; refused", good);
+    for (int i = 1; i < 9; i++) {
+        printf(" %d: %lu%s", i, refused[i], i < 8 ? "," : "\n");
+        if (refused[i] == 0 && calls >= 20000) missing = printf("fuzz: refusal %d was never met\n", i);
+    }
+    printf("fuzz: %lu calls, 0 differences\n", calls);
+    return missing != 0;
+}
+
+int main(int argc, char **argv) {
+    unsigned long calls = argc > 1 ? strtoul(argv[1], NULL, 10) : 20000;
+    now.seed = argc > 2 ? strtoull(argv[2], NULL, 10) : 1;
+    unsigned long every = argc > 3 ? strtoul(argv[3], NULL, 10) : 256;
+    if (calls == 0 || every == 0 || sysconf(_SC_PAGESIZE) != PAGE) {
+        fprintf(stderr, "fuzz: usage: fuzz CALLS SEED EVERY, on pages of %d bytes\n", PAGE);
+        return 2;
+    }
+    struct sigaction act;
+    memset(&act, 0, sizeof act);
+    act.sa_sigaction = fault;
+    act.sa_flags = SA_SIGINFO;
+    sigaction(SIGSEGV, &act, NULL);
+    sigaction(SIGBUS, &act, NULL);
+    dice = now.seed;
+    make_zones();
+    for (now.number = 0; now.number < calls; now.number++) {
+        if (now.number % 1024 == 0) {
+            if (now.number > 0) {
+                compare_memory();
+                check_sums();
+            }
+            new_session();
+        }
+        one_call();
+        if (now.number % every == 0) compare_memory();
+    }
+    compare_memory();
+    check_sums();
+    return report(calls);
+}

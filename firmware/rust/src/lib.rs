@@ -1,0 +1,397 @@
+//! One Spectrum's ULA bus with the buffers that it is lent: a safe layer over the proved archive `libulb.a`.
+//!
+//! ```no_run
+//! use ulb_machine::{Kind, Machine};
+//! let mut m = Machine::boxed();
+//! m.start(Kind::Spectrum48, &[0; 16384]).unwrap();
+//! let answer = m.write_io(0x00FE, 2).unwrap();
+//! if answer.closed {
+//!     let _frame = (m.shown_picture().unwrap(), m.border());
+//! }
+//! ```
+//!
+//! The layer is not proved and adds no rule: every slice goes out with its own length and no two overlap, which is all that
+//! the bus asks of its caller (docs/DUTIES.md), so no function here is unsafe to call. No dependency, and `no_std`: the heap
+//! is used by [`Machine::boxed`] alone.
+#![no_std]
+
+extern crate alloc;
+
+mod raw;
+
+use alloc::boxed::Box;
+
+pub const PICTURE_BYTES: usize = 49152;
+pub const BORDER_BYTES: usize = 76800;
+pub const PAGE_BYTES: usize = 16384;
+
+#[derive(Clone, Copy, Debug, PartialEq, Eq)]
+pub enum Kind {
+    Spectrum48 = 0,
+    Spectrum128 = 1,
+}
+
+impl Kind {
+    pub const fn rom_bytes(self) -> usize {
+        match self {
+            Kind::Spectrum48 => 16384,
+            Kind::Spectrum128 => 32768,
+        }
+    }
+    pub const fn ram_bytes(self) -> usize {
+        match self {
+            Kind::Spectrum48 => 49152,
+            Kind::Spectrum128 => 131072,
+        }
+    }
+    /// Clocks of one frame.
+    pub const fn frame(self) -> u32 {
+        match self {
+            Kind::Spectrum48 => 69888,
+            Kind::Spectrum128 => 70908,
+        }
+    }
+}
+
+/// Why a call did nothing. The numbers are those of `ulb.h`.
+#[derive(Clone, Copy, Debug, PartialEq, Eq)]
+pub enum Refusal {
+    BadMachine = 1,
+    BadLength = 2,
+    Unsound = 3,
+    BadFlag = 4,
+    LongWait = 5,
+    FramesFull = 6,
+    BadPage = 7,
+    BadNumber = 8,
+}
+
+fn accepted(refusal: u8) -> Result<(), Refusal> {
+    Err(match refusal {
+        0 => return Ok(()),
+        1 => Refusal::BadMachine,
+        2 => Refusal::BadLength,
+        3 => Refusal::Unsound,
+        4 => Refusal::BadFlag,
+        5 => Refusal::LongWait,
+        6 => Refusal::FramesFull,
+        7 => Refusal::BadPage,
+        _ => Refusal::BadNumber,
+    })
+}
+
+/// What a timed call answers.
+#[derive(Clone, Copy, Debug, PartialEq, Eq)]
+pub struct Timed {
+    /// A port read's value, a port write's code; 0 for a wait.
+    pub value: u8,
+    /// This call closed a frame: show it before the next call.
+    pub closed: bool,
+    /// The interrupt is on after this call.
+    pub interrupt: bool,
+    pub clocks: u32,
+    /// Blocks of eight pixels that this call painted.
+    pub blocks: u16,
+}
+
+/// What the ports see. Bytes of an absent device are ignored.
+#[derive(Clone, Copy, Debug, PartialEq, Eq)]
+pub struct Devices {
+    /// Three sets of eight rows, bit 0 = a key down; the sets are ANDed.
+    pub rows: [[u8; 8]; 3],
+    pub tape: bool,
+    /// Present if it claims the port of the next call.
+    pub extender: Option<u8>,
+    pub ay: Option<u8>,
+    pub joystick: Option<u8>,
+    pub mouse: Option<Mouse>,
+}
+
+#[derive(Clone, Copy, Debug, PartialEq, Eq)]
+pub struct Mouse {
+    pub buttons: u8,
+    pub x: u8,
+    pub y: u8,
+}
+
+impl Devices {
+    /// No key down, tape bit 1, no device.
+    pub const fn none() -> Devices {
+        Devices { rows: [[0xFF; 8]; 3], tape: true, extender: None, ay: None, joystick: None, mouse: None }
+    }
+
+    fn bytes(&self) -> [u8; 35] {
+        let mut out = [0; 35];
+        for (i, row) in self.rows.iter().flatten().enumerate() {
+            out[i] = *row;
+        }
+        out[24] = self.tape as u8;
+        for (at, device) in [(25, self.extender), (27, self.ay), (29, self.joystick)] {
+            if let Some(byte) = device {
+                out[at] = 1;
+                out[at + 1] = byte;
+            }
+        }
+        if let Some(mouse) = self.mouse {
+            out[31..].copy_from_slice(&[1, mouse.buttons, mouse.x, mouse.y]);
+        }
+        out
+    }
+}
+
+/// A machine and its memory: 340 KB, so keep it in a static or on the heap. Before [`Machine::start`] every call is refused
+/// with [`Refusal::Unsound`].
+pub struct Machine {
+    pub devices: Devices,
+    kind: Kind,
+    state: [u8; 23],
+    rom: [u8; 32768],
+    ram: [u8; 131072],
+    a: [u8; PICTURE_BYTES],
+    b: [u8; PICTURE_BYTES],
+    border: [u8; BORDER_BYTES],
+}
+
+fn word16(p: &[u8]) -> u16 {
+    u16::from_le_bytes([p[0], p[1]])
+}
+
+fn word32(p: &[u8]) -> u32 {
+    u32::from_le_bytes([p[0], p[1], p[2], p[3]])
+}
+
+fn timed(call: impl FnOnce(*mut u8, usize) -> u8) -> Result<Timed, Refusal> {
+    let mut answer = [0; 10];
+    accepted(call(answer.as_mut_ptr(), answer.len()))?;
+    Ok(Timed {
+        value: answer[1],
+        closed: answer[2] != 0,
+        interrupt: answer[3] != 0,
+        clocks: word32(&answer[4..]),
+        blocks: word16(&answer[8..]),
+    })
+}
+
+fn number(call: impl FnOnce(*mut u8, usize) -> u8) -> Result<u32, Refusal> {
+    let mut answer = [0; 5];
+    accepted(call(answer.as_mut_ptr(), answer.len()))?;
+    Ok(word32(&answer[1..]))
+}
+
+// SAFETY, of every block below: each pointer is that of a live array of this struct, of the caller's slice or of a local
+// answer, goes out with a length no greater than the array's, and is used by the call only; the borrow checker keeps those
+// that are written apart from every other.
+impl Machine {
+    pub const fn new() -> Machine {
+        Machine {
+            devices: Devices::none(),
+            kind: Kind::Spectrum48,
+            state: [0; 23],
+            rom: [0; 32768],
+            ram: [0; 131072],
+            a: [0; PICTURE_BYTES],
+            b: [0; PICTURE_BYTES],
+            border: [0; BORDER_BYTES],
+        }
+    }
+
+    /// On the heap, without passing over the stack in an optimised build.
+    pub fn boxed() -> Box<Machine> {
+        Box::new(Machine::new())
+    }
+
+    /// Takes a copy of the ROM and starts. The devices stay as they are. Refused if the ROM has another length.
+    pub fn start(&mut self, kind: Kind, rom: &[u8]) -> Result<(), Refusal> {
+        if rom.len() != kind.rom_bytes() {
+            return Err(Refusal::BadLength);
+        }
+        let ram = kind.ram_bytes();
+        accepted(unsafe {
+            raw::ulb_start(self.state.as_mut_ptr(), 23, self.ram.as_mut_ptr(), ram, self.a.as_mut_ptr(), PICTURE_BYTES,
+                self.b.as_mut_ptr(), PICTURE_BYTES, self.border.as_mut_ptr(), BORDER_BYTES, kind as u32)
+        })?;
+        self.kind = kind;
+        self.rom[..rom.len()].copy_from_slice(rom);
+        Ok(())
+    }
+
+    pub fn wait(&mut self, clocks: u32) -> Result<Timed, Refusal> {
+        let ram = self.kind.ram_bytes();
+        timed(|answer, len| unsafe {
+            raw::ulb_wait_internal(self.state.as_mut_ptr(), 23, self.ram.as_ptr(), ram, self.a.as_mut_ptr(), PICTURE_BYTES,
+                self.b.as_mut_ptr(), PICTURE_BYTES, self.border.as_mut_ptr(), BORDER_BYTES, clocks, answer, len)
+        })
+    }
+
+    pub fn wait_mreq(&mut self, addr: u16, clocks: u32) -> Result<Timed, Refusal> {
+        let ram = self.kind.ram_bytes();
+        timed(|answer, len| unsafe {
+            raw::ulb_wait_mreq(self.state.as_mut_ptr(), 23, self.ram.as_ptr(), ram, self.a.as_mut_ptr(), PICTURE_BYTES,
+                self.b.as_mut_ptr(), PICTURE_BYTES, self.border.as_mut_ptr(), BORDER_BYTES, addr, clocks, answer, len)
+        })
+    }
+
+    pub fn wait_no_mreq(&mut self, addr: u16, clocks: u32) -> Result<Timed, Refusal> {
+        let ram = self.kind.ram_bytes();
+        timed(|answer, len| unsafe {
+            raw::ulb_wait_no_mreq(self.state.as_mut_ptr(), 23, self.ram.as_ptr(), ram, self.a.as_mut_ptr(), PICTURE_BYTES,
+                self.b.as_mut_ptr(), PICTURE_BYTES, self.border.as_mut_ptr(), BORDER_BYTES, addr, clocks, answer, len)
+        })
+    }
+
+    pub fn read_io(&mut self, port: u16) -> Result<Timed, Refusal> {
+        let (ram, devices) = (self.kind.ram_bytes(), self.devices.bytes());
+        timed(|answer, len| unsafe {
+            raw::ulb_read_io(self.state.as_mut_ptr(), 23, devices.as_ptr(), 35, self.ram.as_ptr(), ram, self.a.as_mut_ptr(),
+                PICTURE_BYTES, self.b.as_mut_ptr(), PICTURE_BYTES, self.border.as_mut_ptr(), BORDER_BYTES, port, answer, len)
+        })
+    }
+
+    pub fn write_io(&mut self, port: u16, value: u8) -> Result<Timed, Refusal> {
+        let (ram, devices) = (self.kind.ram_bytes(), self.devices.bytes());
+        timed(|answer, len| unsafe {
+            raw::ulb_write_io(self.state.as_mut_ptr(), 23, devices.as_ptr(), 35, self.ram.as_ptr(), ram, self.a.as_mut_ptr(),
+                PICTURE_BYTES, self.b.as_mut_ptr(), PICTURE_BYTES, self.border.as_mut_ptr(), BORDER_BYTES, port, value,
+                answer, len)
+        })
+    }
+
+    /// The byte at an address, in no time.
+    pub fn read(&self, addr: u16) -> Result<u8, Refusal> {
+        let (rom, ram) = (self.kind.rom_bytes(), self.kind.ram_bytes());
+        number(|answer, len| unsafe {
+            raw::ulb_read_internal(self.state.as_ptr(), 23, self.rom.as_ptr(), rom, self.ram.as_ptr(), ram, addr, answer, len)
+        })
+        .map(|byte| byte as u8)
+    }
+
+    /// A byte to an address, in no time; a write to ROM vanishes.
+    pub fn write(&mut self, addr: u16, value: u8) -> Result<(), Refusal> {
+        let ram = self.kind.ram_bytes();
+        accepted(unsafe { raw::ulb_write_internal(self.state.as_ptr(), 23, self.ram.as_mut_ptr(), ram, addr, value) })
+    }
+
+    /// 5 if paged, 6 if locked, 0 on 48K.
+    pub fn write_7ffd(&mut self, value: u8) -> Result<u32, Refusal> {
+        number(|answer, len| unsafe { raw::ulb_write_7ffd(self.state.as_mut_ptr(), 23, value, answer, len) })
+    }
+
+    pub fn read_7ffd(&self) -> Result<u32, Refusal> {
+        number(|answer, len| unsafe { raw::ulb_read_7ffd(self.state.as_ptr(), 23, answer, len) })
+    }
+
+    pub fn int_active(&self) -> Result<bool, Refusal> {
+        number(|answer, len| unsafe { raw::ulb_int_active(self.state.as_ptr(), 23, answer, len) }).map(|on| on != 0)
+    }
+
+    pub fn frames_count(&self) -> Result<u32, Refusal> {
+        number(|answer, len| unsafe { raw::ulb_frames_count(self.state.as_ptr(), 23, answer, len) })
+    }
+
+    pub fn reset_frame_counter(&mut self) -> Result<(), Refusal> {
+        accepted(unsafe { raw::ulb_reset_frame_counter(self.state.as_mut_ptr(), 23) })
+    }
+
+    pub fn load_page(&mut self, bytes: &[u8], page: u32) -> Result<(), Refusal> {
+        let ram = self.kind.ram_bytes();
+        accepted(unsafe {
+            raw::ulb_load_page(self.state.as_ptr(), 23, self.ram.as_mut_ptr(), ram, bytes.as_ptr(), bytes.len(), page)
+        })
+    }
+
+    /// A part by its start, RAM counted after ROM.
+    fn part(&self, start: u32) -> &[u8] {
+        let (start, rom) = (start as usize, self.kind.rom_bytes());
+        match start.checked_sub(rom) {
+            None => &self.rom[start..start + PAGE_BYTES],
+            Some(at) => &self.ram[at..at + PAGE_BYTES],
+        }
+    }
+
+    pub fn ram_page(&self, page: u32) -> Result<&[u8], Refusal> {
+        let ram = self.kind.ram_bytes();
+        number(|answer, len| unsafe {
+            raw::ulb_ram_page(self.state.as_ptr(), 23, self.ram.as_ptr(), ram, page, answer, len)
+        })
+        .map(|start| self.part(start))
+    }
+
+    /// The 16 KiB at a block 0..3: a part of ROM or RAM.
+    pub fn block(&self, block: u32) -> Result<&[u8], Refusal> {
+        let (rom, ram) = (self.kind.rom_bytes(), self.kind.ram_bytes());
+        number(|answer, len| unsafe {
+            raw::ulb_block(self.state.as_ptr(), 23, self.rom.as_ptr(), rom, self.ram.as_ptr(), ram, block, answer, len)
+        })
+        .map(|start| self.part(start))
+    }
+
+    /// 256 x 192 colours 0..15 of the last finished frame.
+    pub fn shown_picture(&self) -> Result<&[u8; PICTURE_BYTES], Refusal> {
+        number(|answer, len| unsafe {
+            raw::ulb_shown_picture(self.state.as_ptr(), 23, self.a.as_ptr(), PICTURE_BYTES, self.b.as_ptr(), PICTURE_BYTES,
+                answer, len)
+        })
+        .map(|start| if start == 0 { &self.a } else { &self.b })
+    }
+
+    /// 320 x 240 colours 0..7: the finished frame's as long as no border write has followed.
+    pub fn border(&self) -> &[u8; BORDER_BYTES] {
+        &self.border
+    }
+
+    /// Paints RAM page 0 (48K) or 5 (128K) whole into a picture of the caller's.
+    pub fn still_picture(&self, picture: &mut [u8], flash: u32) -> Result<(), Refusal> {
+        let ram = self.kind.ram_bytes();
+        accepted(unsafe {
+            raw::ulb_still_picture(self.state.as_ptr(), 23, self.ram.as_ptr(), ram, picture.as_mut_ptr(), picture.len(), flash)
+        })
+    }
+
+    /// The record, for a snapshot.
+    pub fn state(&self) -> &[u8; 23] {
+        &self.state
+    }
+
+    pub fn kind(&self) -> Kind {
+        self.kind
+    }
+
+    pub fn frame_clock(&self) -> u32 {
+        word32(&self.state[6..])
+    }
+
+    /// Blocks painted in this frame.
+    pub fn blocks_painted(&self) -> u16 {
+        word16(&self.state[15..])
+    }
+}
+
+impl Default for Machine {
+    fn default() -> Self {
+        Machine::new()
+    }
+}
+
+macro_rules! helpers {
+    ($($(#[$doc:meta])* $name:ident => $call:ident;)*) => {
+        $($(#[$doc])* pub fn $name(n: u32) -> Result<u32, Refusal> {
+            // SAFETY: the answer is a local array with its own length.
+            number(|answer, len| unsafe { raw::$call(n, answer, len) })
+        })*
+    };
+}
+
+helpers! {
+    /// Address of a picture line's first byte; lines 0..191.
+    bitmap_line_addr => ulb_bitmap_line_addr;
+    /// Line of a bitmap offset 0..17FFh.
+    bitmap_line_rel => ulb_bitmap_line_rel;
+    /// Column of a bitmap offset 0..17FFh.
+    bitmap_col_rel => ulb_bitmap_col_rel;
+    /// Row of an attribute offset 1800h..1AFFh.
+    attr_row_rel => ulb_attr_row_rel;
+    /// Column of an attribute offset 1800h..1AFFh.
+    attr_col_rel => ulb_attr_col_rel;
+    /// Colour of three bits.
+    color_from_bits => ulb_color_from_bits;
+}

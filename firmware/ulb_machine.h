@@ -1,0 +1,130 @@
+/* ulb_machine.h: one Spectrum with its buffers, for firmware that does not want to type ten lengths.
+ *
+ * A thin layer of plain C over ulb.h. It owns the memory that the bus is lent, passes every slice with its own length,
+ * and decodes the answers. It is not proved; it adds no rule of its own, and each function says which call it makes.
+ *
+ *     static ulb_machine m;                     // 340 KB: static storage, not the stack
+ *     if (ulb_machine_init(&m, ULB_48K, rom, sizeof rom) != ULB_OK) ...
+ *     ulb_timed t = ulb_machine_write_io(&m, 0x00FE, 2);
+ *     if (t.closed) show(ulb_machine_shown_picture(&m).bytes, m.border);
+ *
+ * Nothing here allocates. A struct is one machine; two structs are two machines. One machine is for one thread at a
+ * time. Between calls hand the buffers back untouched: RAM is written by ulb_machine_write and ulb_machine_load_page,
+ * pictures and border are the bus's alone. */
+#ifndef ULB_MACHINE_H
+#define ULB_MACHINE_H
+
+#include <stdbool.h>
+#include <stddef.h>
+#include <stdint.h>
+#include "ulb.h"
+
+#ifdef __cplusplus
+extern "C" {
+#endif
+
+/* The arrays have the sizes of the 128K; a 48K uses the first rom_len and ram_len bytes of its own. */
+typedef struct {
+    uint32_t kind;                       /* ULB_48K or ULB_128K */
+    size_t rom_len, ram_len;             /* what is lent: by the kind */
+    uint8_t state[ULB_STATE_BYTES];      /* docs/LAYOUTS.md, "State" */
+    uint8_t devices[ULB_DEVICE_BYTES];   /* docs/LAYOUTS.md, "Devices"; the setters below write it */
+    uint8_t rom[ULB_ROM_BYTES_128K];
+    uint8_t ram[ULB_RAM_BYTES_128K];
+    uint8_t a[ULB_PICTURE_BYTES];        /* pictures A and B: one is shown, the other being painted */
+    uint8_t b[ULB_PICTURE_BYTES];
+    uint8_t border[ULB_BORDER_BYTES];
+} ulb_machine;
+
+/* What a timed call answers. Of a refused call all but `refusal` is 0. */
+typedef struct {
+    uint8_t refusal;   /* ULB_OK, or why nothing was done */
+    uint8_t value;     /* a port read's value, a port write's code; 0 for a wait */
+    bool closed;       /* this call closed a frame: show it before the next call */
+    bool interrupt;    /* the interrupt is on after this call */
+    uint32_t clocks;   /* clocks that this call took, delays included */
+    uint16_t blocks;   /* blocks of eight pixels that this call painted */
+} ulb_timed;
+
+/* What a call with a number answers. Of a refused call the number is 0. */
+typedef struct {
+    uint8_t refusal;
+    uint32_t number;
+} ulb_number;
+
+/* A part of a machine's own buffers; `bytes` is NULL and `len` 0 if refused. */
+typedef struct {
+    uint8_t refusal;
+    const uint8_t *bytes;
+    size_t len;
+    bool in_rom;       /* ulb_machine_block only: the part is ROM, so writes to it vanish */
+} ulb_part;
+
+/* Takes a copy of the ROM and starts (ulb_start). No key is down, the tape bit is 1, no device is present.
+ * Refusals: 1 kind above 1; 2 the ROM is not 16,384 bytes (48K) or 32,768 bytes (128K). Refused: nothing is written. */
+uint8_t ulb_machine_init(ulb_machine *m, uint32_t kind, const uint8_t *rom, size_t rom_len);
+/* Starts again, same kind and ROM, same devices: RAM, pictures, border and record as at the first start. */
+uint8_t ulb_machine_restart(ulb_machine *m);
+
+/* Timed calls: ulb_wait_internal, ulb_wait_mreq, ulb_wait_no_mreq, ulb_read_io, ulb_write_io. */
+ulb_timed ulb_machine_wait(ulb_machine *m, uint32_t clocks);
+ulb_timed ulb_machine_wait_mreq(ulb_machine *m, uint16_t addr, uint32_t clocks);
+ulb_timed ulb_machine_wait_no_mreq(ulb_machine *m, uint16_t addr, uint32_t clocks);
+ulb_timed ulb_machine_read_io(ulb_machine *m, uint16_t port);
+ulb_timed ulb_machine_write_io(ulb_machine *m, uint16_t port, uint8_t value);
+/* What a read of `port` would take, with `m` left alone: a port read on `scratch`, a machine of the same kind whose record
+ * is overwritten by m's. The value's moment is t.clocks - 1 after now: set tape, AY and extender for that moment, then read
+ * for true. (Clocks depend on record and port alone, so no memory is copied; value and blocks are scratch's own.)
+ * Refused with ULB_BAD_LENGTH if the kinds differ. */
+ulb_timed ulb_machine_port_timing(const ulb_machine *m, ulb_machine *scratch, uint16_t port);
+
+/* Memory, in no time: ulb_read_internal, ulb_write_internal, ulb_load_page (16,384 bytes). */
+ulb_number ulb_machine_read(ulb_machine *m, uint16_t addr);
+uint8_t ulb_machine_write(ulb_machine *m, uint16_t addr, uint8_t value);
+uint8_t ulb_machine_load_page(ulb_machine *m, const uint8_t *bytes, size_t len, uint32_t page);
+
+/* Paging, interrupt and frames, in no time. */
+ulb_number ulb_machine_write_7ffd(ulb_machine *m, uint8_t value);
+ulb_number ulb_machine_read_7ffd(ulb_machine *m);
+ulb_number ulb_machine_int_active(ulb_machine *m);
+ulb_number ulb_machine_frames_count(ulb_machine *m);
+uint8_t ulb_machine_reset_frame_counter(ulb_machine *m);
+
+/* Parts: ulb_ram_page, ulb_block, ulb_shown_picture. They stay where they are until the next call. */
+ulb_part ulb_machine_ram_page(ulb_machine *m, uint32_t page);
+ulb_part ulb_machine_block(ulb_machine *m, uint32_t block);
+ulb_part ulb_machine_shown_picture(ulb_machine *m);
+
+/* ulb_still_picture into 49,152 bytes of the caller's own, neither m->a nor m->b. */
+uint8_t ulb_machine_still_picture(ulb_machine *m, uint8_t *picture, size_t len, uint32_t flash);
+
+/* The six helpers that need no machine: ulb_bitmap_line_addr and its like. */
+ulb_number ulb_number_of(uint8_t (*helper)(uint32_t, uint8_t *, size_t), uint32_t number);
+
+/* Devices. Rows are the port read's own bits: bit 0..4 a key, 0 = down; FFh = no key of that row. Sets 0 to 2 are ANDed:
+ * use one for the keyboard and the others for, say, buttons mapped to keys. Out of range: nothing is written. */
+void ulb_machine_no_devices(ulb_machine *m);
+void ulb_machine_set_row(ulb_machine *m, unsigned set, unsigned row, uint8_t bits);
+void ulb_machine_set_tape(ulb_machine *m, bool bit);
+void ulb_machine_set_extender(ulb_machine *m, bool claims_port, uint8_t value);
+void ulb_machine_set_ay(ulb_machine *m, bool present, uint8_t value);
+void ulb_machine_set_joystick(ulb_machine *m, bool present, uint8_t value);
+void ulb_machine_set_mouse(ulb_machine *m, bool present, uint8_t buttons, uint8_t x, uint8_t y);
+
+/* Fields of the state record. */
+uint32_t ulb_machine_frame_clock(const ulb_machine *m);
+uint32_t ulb_machine_passed_frames(const ulb_machine *m);
+uint8_t ulb_machine_phase(const ulb_machine *m);
+uint16_t ulb_machine_blocks_painted(const ulb_machine *m);
+uint8_t ulb_machine_reported_border(const ulb_machine *m);
+/* Clocks of one frame: 69,888 or 70,908. */
+uint32_t ulb_machine_frame_length(const ulb_machine *m);
+
+/* A refusal in words, for a log. */
+const char *ulb_refusal_text(uint8_t refusal);
+
+#ifdef __cplusplus
+}
+#endif
+
+#endif
