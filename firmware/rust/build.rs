@@ -1,4 +1,4 @@
-//! Tells cargo where libulb.a is: in ULB_LIB_DIR, or where `rt staticlib ulb` writes it. The archive is for x86-64, so other
+//! Tells cargo where libulb.a is: in ULB_LIB_DIR, or where `tools/archive` writes it. The archive is for x86-64, so other
 //! targets can check this crate but not link it.
 use std::env;
 use std::path::PathBuf;

@@ -13,8 +13,8 @@ use Rattle.machine.specs.Numbers.{specsOf}
 use Rattle.machine.specs.Timing.{blockPosition}
 use Rattle.machine.proofs.Numbered.{regular}
 use Rattle.machine.proofs.Rising.{blocks-at-end}
-use Rattle.screen.specs.Paint.{blockAt, paint}
-use Rattle.screen.proofs.Painting.{paint-in, paint-out}
+use Rattle.paint.specs.Paint.{blockAt, paint}
+use Rattle.paint.proofs.Painting.{paint-in, paint-out}
 use Rattle.border.specs.Edge.{finished}
 use Rattle.memory.specs.Paging.{shownPage}
 use Rattle.memory.specs.Memory.{ramPage}

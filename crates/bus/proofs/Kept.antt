@@ -113,6 +113,24 @@ module _ (m : ZXMachine) where
       (λ f. record { colour = refl; pairs = s .pairs; atEnd = s .atEnd; noPairs = s .noPairs })
       (λ f. open-kept place k (w .edge))
 
+  -- passed frames' reset keeps all else
+  pub unpass-kept : (w : World) → SoundWorld m w → SoundWorld m (does m unpass w)
+  unfolding inCore inScreen inEdge
+  unpass-kept w s =
+      record {
+        passed = omega arith;
+        phase = s .phase;
+        paging = s .paging;
+        reported = s .reported;
+        colour = s .colour;
+        clock = s .clock;
+        painted = s .painted;
+        pairs = s .pairs;
+        atEnd = s .atEnd;
+        noPairs = s .noPairs;
+        unpaged = s .unpaged;
+      }
+
   -- EVERY OPERATION KEEPS SOUNDNESS: one in range, on a sound world, where the clock stays below two frames and passed frames have room
   -- for the frame that it may close.
   pub op-kept : (o : Op) (w : World) → SoundWorld m w → InRange m o
@@ -152,20 +170,7 @@ module _ (m : ZXMachine) where
       }
   op-kept (poke i v) w s r short room = s
   op-kept (load p bytes) w s r short room = s
-  op-kept unpass w s r short room =
-      record {
-        passed = omega arith;
-        phase = s .phase;
-        paging = s .paging;
-        reported = s .reported;
-        colour = s .colour;
-        clock = s .clock;
-        painted = s .painted;
-        pairs = s .pairs;
-        atEnd = s .atEnd;
-        noPairs = s .noPairs;
-        unpaged = s .unpaged;
-      }
+  op-kept unpass w s r short room = unpass-kept w s
 
   -- the same of operations one after the other
   abbrev pub AllInRange : List Op → Type 0

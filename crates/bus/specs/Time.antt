@@ -8,7 +8,7 @@ use lib.ListN.{set}
 use Rattle.machine.specs.declared.ZXMachine.{ZXMachine}
 use Rattle.machine.specs.Numbers.{specsOf}
 use Rattle.machine.specs.Timing.{blockPosition, borderAt}
-use Rattle.screen.specs.Paint.{paint}
+use Rattle.paint.specs.Paint.{paint}
 use Rattle.border.specs.Edge.{Edge, inked, finished}
 use Rattle.memory.specs.Paging.{shownPage}
 use Rattle.memory.specs.Memory.{ramPage, loaded}

@@ -23,8 +23,8 @@ use Rattle.memory.specs.Memory.{ramPage}
 use Rattle.memory.specs.Paging.{write7ffd}
 use Rattle.ports.specs.declared.Written.{Written}
 use Rattle.ports.specs.declared.Written.the-variants as written
-use Rattle.screen.specs.Paint.{paint}
-use Rattle.screen.proofs.Painting.{length-paint}
+use Rattle.paint.specs.Paint.{paint}
+use Rattle.paint.proofs.Painting.{length-paint}
 use Rattle.border.specs.Edge.{Edge, inked, inkedAt, finished}
 use Rattle.border.proofs.Fills.{length-filled}
 use Rattle.record.specs.declared.Bus.{Bus}

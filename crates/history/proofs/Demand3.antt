@@ -11,7 +11,7 @@ use Rattle.machine.specs.declared.ZXMachine.{ZXMachine}
 use Rattle.machine.specs.Numbers.{specsOf}
 use Rattle.bus.specs.World.{World, clearRam, started}
 use Rattle.bus.proofs.Kept.{SoundWorld, started-sound}
-use Rattle.ulb.specs.Timed.{Lent, lentBy}
+use Rattle.contracts.specs.Timed.{Lent, lentBy}
 use Rattle.history.specs.Log.{drawn, older}
 use Rattle.history.specs.Calls.{Kind, Call, Left, called, reportedClocks, reportedBlocks, reportedClosed, Typed, AllTyped, Sums, summed, EachCall, NoStart, NoSecondStart, PortTakes}
 use Rattle.history.specs.Demand.{callOps, Told, tell, tellAll, begun, history, bytesAfter, paintedTo, Demand3}

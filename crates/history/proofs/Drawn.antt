@@ -9,8 +9,8 @@ use native.Mathlib.Decide.{decLt}
 use lib.ListN.{length, getD, length-append, List·getD-append}
 use lib.Seq.{getD-append-add}
 use borrow.Author.Tests.{lt-ltb, le-ltb}
-use Rattle.screen.specs.Paint.{blockAt, blocks}
-use Rattle.screen.proofs.Painting.{length-blocks}
+use Rattle.paint.specs.Paint.{blockAt, blocks}
+use Rattle.paint.proofs.Painting.{length-blocks}
 use Rattle.memory.specs.Memory.{ramPage}
 use Rattle.bus.specs.Time.{Look}
 use Rattle.history.specs.Log.{Still, Frame, Shows, drawn, drawnBy, lastAt, Rising, reaching, blockBy}

@@ -28,7 +28,7 @@ use Rattle.screen.specs.declared.Helped.{Helped}
 use Rattle.screen.specs.declared.Helped.the-variants as helped
 use Rattle.screen.specs.Address.{lineAddress, lineAt, columnAt, attributeRow, attributeColumn}
 use Rattle.screen.specs.Color.{fromBits}
-use Rattle.screen.specs.Paint.{blocks}
+use Rattle.paint.specs.Paint.{blocks}
 use Rattle.bus.specs.Time.{showsA}
 use Rattle.ports.specs.Devices.{flagsOf}
 use Rattle.bus.specs.World.{Core, World, busOf, clearPicture, clearBorder}
@@ -40,9 +40,9 @@ use Rattle.answers.specs.declared.Verdict.{Verdict}
 use Rattle.answers.specs.declared.Verdict.the-variants.{Refused, Accepted}
 use Rattle.answers.specs.Refusals.{refusalNumber, Cause, cause, judged, judgedHeld, judge}
 use Rattle.answers.specs.Judges.{pictureFits, borderFits, timedFits, numberFits, unless, longWait, judgeWait, judgePort, judgeState, judgeTold, judgeRead, judgeWrite, judgeLoad, judgeRamPageTold, judgeBlockTold, judgeShownTold, judgeStill}
-use Rattle.ulb.specs.Timed.{Lent, lentBy, timed, Started, start, waitInternal, waitAt, readIo, writeIo}
-use Rattle.ulb.specs.Plain.{Told, codeOf, tell, change, repage, withPassed, stillPage, readInternal, writeInternal, write7ffdCall, read7ffd, intActive, framesCount, resetFrames, loadPage, stillPicture, ramPageTold, blockTold, shownTold}
-use Rattle.ulb.specs.Helpers.{help, helperCall, colorHelped, bitmapLineAddr, bitmapLineRel, bitmapColRel, attrRowRel, attrColRel, colorFromBits}
+use Rattle.contracts.specs.Timed.{Lent, lentBy, timed, Started, start, waitInternal, waitAt, readIo, writeIo}
+use Rattle.contracts.specs.Plain.{Told, codeOf, tell, change, repage, withPassed, stillPage, readInternal, writeInternal, write7ffdCall, read7ffd, intActive, framesCount, resetFrames, loadPage, stillPicture, ramPageTold, blockTold, shownTold}
+use Rattle.contracts.specs.Helpers.{help, helperCall, colorHelped, bitmapLineAddr, bitmapLineRel, bitmapColRel, attrRowRel, attrColRel, colorFromBits}
 use Rattle.history.specs.Calls.{Lens, lentOf, Kind, startAgain, plain, mreq, noMreq, portIn, portOut, readByte, writeByte, writePaging, readPaging, askInterrupt, askFrames, resetPassed, loadRam, askPage, askBlock, askShown, still, helpLineAddr, helpLine, helpColumn, helpAttrRow, helpAttrColumn, helpColor, performed, called}
 use Rattle.history.specs.Demand.{blind}
 use Rattle.history.proofs.Operations.{picture-size, border-size}

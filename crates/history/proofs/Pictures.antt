@@ -16,7 +16,7 @@ use Rattle.machine.specs.Timing.{blockPosition}
 use Rattle.machine.proofs.Numbered.{regular}
 use Rattle.machine.proofs.Bounds.{position-small}
 use Rattle.machine.proofs.Rising.{blocks-mono, blocks-at-end}
-use Rattle.screen.proofs.Painting.{paint-splice, length-blocks}
+use Rattle.paint.proofs.Painting.{paint-splice, length-blocks}
 use Rattle.memory.specs.Memory.{ramPage}
 use Rattle.bus.specs.World.{Core, Screen, World}
 use Rattle.bus.specs.Time.{Op, tick, colour, paged, poke, load, unpass, Look, lookAt, painted, showsA, shownPicture, hiddenPicture, caughtUp, closes, wrapped, inCore, rewound, inScreen}

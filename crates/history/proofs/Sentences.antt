@@ -18,14 +18,14 @@ use Rattle.record.specs.declared.Held.the-variants as held
 use Rattle.record.specs.Record.{heldBy}
 use Rattle.record.proofs.Soundness.{facts-sound}
 use Rattle.record.proofs.Round.{held-encode}
-use Rattle.screen.proofs.Painting.{paint-out}
+use Rattle.paint.proofs.Painting.{paint-out}
 use Rattle.memory.specs.Memory.{ramPage}
 use Rattle.bus.specs.World.{World, busOf, started}
 use Rattle.bus.specs.Time.{Op, tick, colour, paged, poke, load, unpass, Look, lookAt, painted, showsA, shownPicture, hiddenPicture, caughtUp, closes, inCore, inScreen, does}
 use Rattle.bus.specs.Turns.{closedBy}
 use Rattle.bus.proofs.OneStep.{core-goes, screen-closed, screen-goes, closes-at}
 use Rattle.bus.proofs.Closing.{completed, closing-shows}
-use Rattle.ulb.specs.Timed.{Lent, lentBy}
+use Rattle.contracts.specs.Timed.{Lent, lentBy}
 use Rattle.history.specs.Log.{Still, Frame, Shows, AllShow, lastAt, Rising, reaching, blockBy, colourAt}
 use Rattle.history.specs.Calls.{Lens, plain, Call, called, reportedClosed, Typed, AllTyped, EachCall, NoStart, NoSecondStart}
 use Rattle.history.specs.Demand.{worldAfter, callOps, history, bytesAfter}

@@ -1,4 +1,4 @@
--- EACH FUNCTION OF THE C SURFACE IS ONE STEP OF A HISTORY. The hypothesis of each lemma is the function's contract, as crate `ulb` states it:
+-- EACH FUNCTION OF THE C SURFACE IS ONE STEP OF A HISTORY. The hypothesis of each lemma is the function's contract, as the crates `ulb_..` state it:
 -- r is the number returned, the primed lists are slices at exit, and what was lent are the fronts `lentOf n l` of the buffers l. The
 -- conclusion is `called` of that call: its number, the buffers when the slices have come back, and a timed call's answer.
 -- Assumes nothing.
@@ -11,9 +11,9 @@ use lib.Dec.{ltb}
 use lib.ListN.{length}
 use Rattle.record.specs.Record.{machineOf}
 use Rattle.bus.specs.World.{started}
-use Rattle.ulb.specs.Timed.{Lent, lentBy, Outcome, outcome, Started, start, waitInternal, waitAt, readIo, writeIo}
-use Rattle.ulb.specs.Plain.{Told, told, Changed, changed, Repaged, repaged, readInternal, writeInternal, write7ffdCall, read7ffd, intActive, framesCount, resetFrames, loadPage, stillPicture, ramPageTold, blockTold, shownTold}
-use Rattle.ulb.specs.Helpers.{bitmapLineAddr, bitmapLineRel, bitmapColRel, attrRowRel, attrColRel, colorFromBits}
+use Rattle.contracts.specs.Timed.{Lent, lentBy, Outcome, outcome, Started, start, waitInternal, waitAt, readIo, writeIo}
+use Rattle.contracts.specs.Plain.{Told, told, Changed, changed, Repaged, repaged, readInternal, writeInternal, write7ffdCall, read7ffd, intActive, framesCount, resetFrames, loadPage, stillPicture, ramPageTold, blockTold, shownTold}
+use Rattle.contracts.specs.Helpers.{bitmapLineAddr, bitmapLineRel, bitmapColRel, attrRowRel, attrColRel, colorFromBits}
 use Rattle.history.specs.Calls.{Lens, lentOf, handedBack, Kind, startAgain, plain, mreq, noMreq, portIn, portOut, readByte, writeByte, writePaging, readPaging, askInterrupt, askFrames, resetPassed, loadRam, askPage, askBlock, askShown, still, helpLineAddr, helpLine, helpColumn, helpAttrRow, helpAttrColumn, helpColor, Left, withRam, withState, performed, called, summed}
 use Rattle.history.specs.Demand.{bytesAfter}
 use Rattle.history.proofs.Whole.{untouched}

@@ -45,8 +45,8 @@ use Rattle.answers.specs.declared.Verdict.{Verdict}
 use Rattle.answers.specs.declared.Verdict.the-variants.{Refused, Accepted}
 use Rattle.answers.specs.Judges.{pictureFits, borderFits, timedFits, judgeWait, judgePort, judgeState, judgeTold, judgeWrite, judgeLoad}
 use Rattle.answers.specs.Answers.{timedAnswer}
-use Rattle.ulb.specs.Timed.{Lent, lentBy, Outcome, timed, timedEnd, noValue, Started, start, waitInternal, waitAt, readIo, writeIo}
-use Rattle.ulb.specs.Plain.{codeOf, change, repage, withPaging, withPassed, writeInternal, write7ffdCall, resetFrames, loadPage}
+use Rattle.contracts.specs.Timed.{Lent, lentBy, Outcome, timed, timedEnd, noValue, Started, start, waitInternal, waitAt, readIo, writeIo}
+use Rattle.contracts.specs.Plain.{codeOf, change, repage, withPaging, withPassed, writeInternal, write7ffdCall, resetFrames, loadPage}
 use Rattle.history.specs.Calls.{Lens, lentOf, handedBack, Kind, startAgain, plain, mreq, noMreq, portIn, portOut, readByte, writeByte, writePaging, readPaging, askInterrupt, askFrames, resetPassed, loadRam, askPage, askBlock, askShown, still, helpLineAddr, helpLine, helpColumn, helpAttrRow, helpAttrColumn, helpColor, Left, ofOutcome, withRam, withState, performed, called, reportedClocks, reportedBlocks, reportedClosed, Typed, NoStart, PortTakes}
 use Rattle.history.specs.Demand.{pokeAt, opsOf, worldAfter, blind, callOps}
 use Rattle.history.proofs.Operations.{closings, AllSmall}

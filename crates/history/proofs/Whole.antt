@@ -9,7 +9,7 @@ use lib.Seq.{take-all}
 use Rattle.machine.specs.declared.ZXMachine.{ZXMachine}
 use Rattle.machine.specs.Numbers.{specsOf}
 use Rattle.bus.specs.World.{World}
-use Rattle.ulb.specs.Timed.{Lent}
+use Rattle.contracts.specs.Timed.{Lent}
 use Rattle.history.specs.Calls.{Lens, lentOf, handedBack, withRam, withState}
 
 -- the memory of a machine has the lengths that document 01 gives it

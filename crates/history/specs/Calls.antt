@@ -10,9 +10,9 @@ use mathlib.Core.Path.{_≡_}
 use lib.Dec.{eqb}
 use lib.ListN.{take, drop}
 use Rattle.record.specs.Words.{byteAt, wordAt, longAt}
-use Rattle.ulb.specs.Timed.{Lent, Outcome, start, waitInternal, waitAt, readIo, writeIo}
-use Rattle.ulb.specs.Plain.{Told, readInternal, writeInternal, write7ffdCall, read7ffd, intActive, framesCount, resetFrames, loadPage, stillPicture, ramPageTold, blockTold, shownTold}
-use Rattle.ulb.specs.Helpers.{bitmapLineAddr, bitmapLineRel, bitmapColRel, attrRowRel, attrColRel, colorFromBits}
+use Rattle.contracts.specs.Timed.{Lent, Outcome, start, waitInternal, waitAt, readIo, writeIo}
+use Rattle.contracts.specs.Plain.{Told, readInternal, writeInternal, write7ffdCall, read7ffd, intActive, framesCount, resetFrames, loadPage, stillPicture, ramPageTold, blockTold, shownTold}
+use Rattle.contracts.specs.Helpers.{bitmapLineAddr, bitmapLineRel, bitmapColRel, attrRowRel, attrColRel, colorFromBits}
 
 -- how many bytes of each of its own buffers the firmware lends: all of them, or, by a mistake, fewer
 pub record Lens : Type 0 where
@@ -93,7 +93,7 @@ withRam l ram = record { state = l .state; ram = ram; a = l .a; b = l .b; border
 abbrev pub withState : Lent → List ℕ → Lent
 withState l state = record { state = state; ram = l .ram; a = l .a; b = l .b; border = l .border }
 
--- each call by its definition of crate `ulb`, which its contract says of the code
+-- each call by its definition of crate `contracts`, which its contract says of the code
 unfoldable pub performed : Kind → Lent → Left
 performed (startAgain machine) l =
     let s = start l machine in

@@ -16,7 +16,7 @@ use Rattle.bus.specs.Calls.{plainWait, addressWait, portRead, portWrite, paging
 use Rattle.memory.specs.declared.Place.{Place}
 use Rattle.memory.specs.declared.Place.the-variants as place
 use Rattle.memory.specs.Memory.{placeOf}
-use Rattle.ulb.specs.Timed.{lentBy}
+use Rattle.contracts.specs.Timed.{lentBy}
 use Rattle.history.specs.Log.{Log, Still, follow, film, blank, lastAt, drawn, colourAt, newest, older, borderOf, AllShow, Chained}
 use Rattle.history.specs.Calls.{Kind, startAgain, plain, mreq, noMreq, portIn, portOut, readByte, writeByte, writePaging, readPaging, askInterrupt, askFrames, resetPassed, loadRam, askPage, askBlock, askShown, still, helpLineAddr, helpLine, helpColumn, helpAttrRow, helpAttrColumn, helpColor, Call, called, EachCall, PortTakes, Sums, summed}
 

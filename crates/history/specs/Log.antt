@@ -10,7 +10,7 @@ use lib.ListN.{getD}
 use Rattle.machine.specs.declared.ZXMachine.{ZXMachine}
 use Rattle.machine.specs.Numbers.{specsOf}
 use Rattle.machine.specs.Timing.{borderPosition}
-use Rattle.screen.specs.Paint.{blockAt, blocks}
+use Rattle.paint.specs.Paint.{blockAt, blocks}
 use Rattle.memory.specs.Memory.{ramPage}
 use Rattle.bus.specs.World.{Core, World, clearPicture}
 use Rattle.bus.specs.Time.{Op, tick, colour, paged, poke, load, unpass, Look, lookAt, closes, inCore, does, shownPicture}

@@ -16,7 +16,7 @@ fn start(
     border: &mut [u8],
 ) {
     script::no_devices(devices, call.x);
-    script::say_done(ulb::ulb_start(state, ram, a, b, border, call.z));
+    script::say_done(ulb_waits::ulb_start(state, ram, a, b, border, call.z));
 }
 
 // A timed call: its refusal.
@@ -31,15 +31,15 @@ fn timed(
     answer: &mut [u8],
 ) -> u8 {
     if call.op == b'N' {
-        ulb::ulb_wait_internal(state, ram, a, b, border, call.z, answer)
+        ulb_waits::ulb_wait_internal(state, ram, a, b, border, call.z, answer)
     } else if call.op == b'M' {
-        ulb::ulb_wait_mreq(state, ram, a, b, border, call.y, call.z, answer)
+        ulb_waits::ulb_wait_mreq(state, ram, a, b, border, call.y, call.z, answer)
     } else if call.op == b'O' {
-        ulb::ulb_wait_no_mreq(state, ram, a, b, border, call.y, call.z, answer)
+        ulb_waits::ulb_wait_no_mreq(state, ram, a, b, border, call.y, call.z, answer)
     } else if call.op == b'I' {
-        ulb::ulb_read_io(state, devices, ram, a, b, border, call.y, answer)
+        ulb_ports::ulb_read_io(state, devices, ram, a, b, border, call.y, answer)
     } else {
-        ulb::ulb_write_io(state, devices, ram, a, b, border, call.y, call.x, answer)
+        ulb_ports::ulb_write_io(state, devices, ram, a, b, border, call.y, call.x, answer)
     }
 }
 
@@ -68,7 +68,7 @@ fn play_timed(
 fn write_7ffd(call: Call, state: &mut [u8]) {
     let mut answer = [0u8; 5];
     let before = script::byte_at(state, 17);
-    let refusal = ulb::ulb_write_7ffd(state, call.x, &mut answer);
+    let refusal = ulb_state::ulb_write_7ffd(state, call.x, &mut answer);
     if refusal == 0 {
         script::say_number(script::seen(answer[1], 1, before, script::byte_at(state, 17)) as u32);
     } else {
@@ -80,11 +80,11 @@ fn write_7ffd(call: Call, state: &mut [u8]) {
 fn ask_state(call: Call, state: &[u8]) {
     let mut answer = [0u8; 5];
     let refusal = if call.op == b'8' {
-        ulb::ulb_read_7ffd(state, &mut answer)
+        ulb_state::ulb_read_7ffd(state, &mut answer)
     } else if call.op == b'T' {
-        ulb::ulb_int_active(state, &mut answer)
+        ulb_state::ulb_int_active(state, &mut answer)
     } else {
-        ulb::ulb_frames_count(state, &mut answer)
+        ulb_state::ulb_frames_count(state, &mut answer)
     };
     script::say_told(refusal, &answer);
 }
@@ -93,13 +93,13 @@ fn ask_state(call: Call, state: &[u8]) {
 fn ask_memory(call: Call, state: &[u8], rom: &[u8], ram: &[u8], a: &[u8], b: &[u8]) {
     let mut answer = [0u8; 5];
     let refusal = if call.op == b'G' {
-        ulb::ulb_read_internal(state, rom, ram, call.y, &mut answer)
+        ulb_memory::ulb_read_internal(state, rom, ram, call.y, &mut answer)
     } else if call.op == b'Q' {
-        ulb::ulb_ram_page(state, ram, call.x as u32, &mut answer)
+        ulb_memory::ulb_ram_page(state, ram, call.x as u32, &mut answer)
     } else if call.op == b'B' {
-        ulb::ulb_block(state, rom, ram, call.x as u32, &mut answer)
+        ulb_memory::ulb_block(state, rom, ram, call.x as u32, &mut answer)
     } else {
-        ulb::ulb_shown_picture(state, a, b, &mut answer)
+        ulb_pictures::ulb_shown_picture(state, a, b, &mut answer)
     };
     script::say_told(refusal, &answer);
 }
@@ -107,17 +107,17 @@ fn ask_memory(call: Call, state: &[u8], rom: &[u8], ram: &[u8], a: &[u8], b: &[u
 fn ask_helper(call: Call) {
     let mut answer = [0u8; 5];
     let refusal = if call.op == b'a' {
-        ulb::ulb_bitmap_line_addr(call.z, &mut answer)
+        ulb_helpers::ulb_bitmap_line_addr(call.z, &mut answer)
     } else if call.op == b'b' {
-        ulb::ulb_bitmap_line_rel(call.z, &mut answer)
+        ulb_helpers::ulb_bitmap_line_rel(call.z, &mut answer)
     } else if call.op == b'c' {
-        ulb::ulb_bitmap_col_rel(call.z, &mut answer)
+        ulb_helpers::ulb_bitmap_col_rel(call.z, &mut answer)
     } else if call.op == b'd' {
-        ulb::ulb_attr_row_rel(call.z, &mut answer)
+        ulb_helpers::ulb_attr_row_rel(call.z, &mut answer)
     } else if call.op == b'e' {
-        ulb::ulb_attr_col_rel(call.z, &mut answer)
+        ulb_helpers::ulb_attr_col_rel(call.z, &mut answer)
     } else {
-        ulb::ulb_color_from_bits(call.z, &mut answer)
+        ulb_helpers::ulb_color_from_bits(call.z, &mut answer)
     };
     script::say_told(refusal, &answer);
 }
@@ -129,7 +129,7 @@ fn fill_rom(call: Call, rom: &mut [u8]) {
 
 fn load_filled(call: Call, state: &[u8], ram: &mut [u8], page: &mut [u8]) {
     script::fill(page, call.z);
-    script::say_done(ulb::ulb_load_page(state, ram, page, call.x as u32));
+    script::say_done(ulb_memory::ulb_load_page(state, ram, page, call.x as u32));
 }
 
 fn load_page(call: Call, state: &[u8], ram: &mut [u8], spare: &mut [u8]) {
@@ -139,7 +139,7 @@ fn load_page(call: Call, state: &[u8], ram: &mut [u8], spare: &mut [u8]) {
 }
 
 fn still_picture(call: Call, state: &[u8], ram: &[u8], picture: &mut [u8]) {
-    let refusal = ulb::ulb_still_picture(state, ram, picture, call.z);
+    let refusal = ulb_pictures::ulb_still_picture(state, ram, picture, call.z);
     if refusal == 0 {
         script::say_number(script::digest(picture));
     } else {
@@ -159,9 +159,9 @@ fn change(
     let op = call.op;
     match op {
         b'D' => script::set_device(call, devices),
-        b'P' => script::say_done(ulb::ulb_write_internal(state, ram, call.y, call.x)),
+        b'P' => script::say_done(ulb_memory::ulb_write_internal(state, ram, call.y, call.x)),
         b'7' => write_7ffd(call, state),
-        b'Z' => script::say_done(ulb::ulb_reset_frame_counter(state)),
+        b'Z' => script::say_done(ulb_state::ulb_reset_frame_counter(state)),
         b'L' => load_page(call, state, ram, spare),
         _ => fill_rom(call, rom),
     }

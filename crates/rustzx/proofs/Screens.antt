@@ -20,9 +20,10 @@ use Rattle.machine.proofs.Bounds.{blocks-small, position-small}
 use Rattle.offsets.specs.Offset.{offsetOf}
 use Rattle.screen.specs.Color.{bit, attributeOf, activeColor}
 use Rattle.screen.specs.Pixel.{pixelOf, blockOf}
-use Rattle.screen.specs.Paint.{attributeOffset, blockAt, paint}
+use Rattle.screen.specs.Address.{attributeOffset}
+use Rattle.paint.specs.Paint.{blockAt, paint}
 use Rattle.screen.proofs.Attributes.{pixel-of-attribute}
-use Rattle.screen.proofs.Painting.{paint-none}
+use Rattle.paint.proofs.Painting.{paint-none}
 use Rattle.memory.specs.Paging.{bitSet, shownPage}
 use Rattle.memory.specs.Memory.{ramPage}
 use Rattle.bus.specs.World.{Core, Screen}

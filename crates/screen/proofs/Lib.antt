@@ -2,4 +2,3 @@ pub mod RoundTrips
 pub mod Attributes
 pub mod OneBit
 pub mod Shown
-pub mod Painting

@@ -11,9 +11,8 @@ use Rattle.screen.specs.declared.Helped.the-variants.{Number}
 use Rattle.screen.specs.declared.ZXColor.{ZXColor}
 use Rattle.screen.specs.declared.ZXColor.the-variants.{Black, Blue, Red, Purple, Green, Cyan, Yellow, White}
 use Rattle.screen.specs.declared.Colored.the-variants.{Color}
-use Rattle.screen.specs.Address.{lineOf, lineAddress, lineAt, columnAt, attributeRow, attributeColumn}
+use Rattle.screen.specs.Address.{lineOf, lineAddress, lineAt, columnAt, attributeRow, attributeColumn, attributeOffset}
 use Rattle.screen.specs.Color.{colorOf, colorNumber, fromBits}
-use Rattle.screen.specs.Paint.{attributeOffset}
 
 -- an offset by its four parts: third, line of a row, row of a third, column
 module _ (a b c col : ℕ) (hb : b < 8) (hc : c < 8) (hcol : col < 32) where

@@ -41,3 +41,7 @@ helpedRefusal OutOfRange = 8
 abbrev pub helpedNumber : Helped → ℕ
 helpedNumber (Number n) = n
 helpedNumber OutOfRange = 0
+
+-- where the attribute of raster block k stands in a page: after the bitmap, one for a column of 8 lines, which are 256 blocks
+abbrev pub attributeOffset : ℕ → ℕ
+attributeOffset k = 0x1800 + k / 256 * 32 + k % 32

@@ -1,4 +1,3 @@
 pub mod Address
 pub mod Color
 pub mod Pixel
-pub mod Paint

@@ -15,8 +15,8 @@ use Rattle.machine.specs.Numbers.{specsOf}
 use Rattle.machine.specs.Timing.{blockPosition}
 use Rattle.machine.proofs.Numbered.{regular}
 use Rattle.machine.proofs.Bounds.{position-small}
-use Rattle.screen.specs.Paint.{paint}
-use Rattle.screen.proofs.Painting.{paint-none}
+use Rattle.paint.specs.Paint.{paint}
+use Rattle.paint.proofs.Painting.{paint-none}
 use Rattle.memory.specs.Paging.{shownPage}
 use Rattle.memory.proofs.Places.{exists-fits, shown-exists}
 use Rattle.border.specs.declared.Beam.{Beam}

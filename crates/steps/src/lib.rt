@@ -51,9 +51,9 @@ fn catch_up(bus: Bus, position: u32, ram: &[u8], a: &mut [u8], b: &mut [u8]) -> 
     let start = 16384 * memory::screen_bank(m, bus.paging) as usize;
     let flash = (1 <= bus.phase) & (bus.phase <= 16);
     if bus.phase % 2 == 0 {
-        screen::paint_ram(ram, start, b, from, to, flash) as u32
+        paint::paint_ram(ram, start, b, from, to, flash) as u32
     } else {
-        screen::paint_ram(ram, start, a, from, to, flash) as u32
+        paint::paint_ram(ram, start, a, from, to, flash) as u32
     }
 }
 

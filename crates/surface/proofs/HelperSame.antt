@@ -14,9 +14,9 @@ use Rattle.screen.specs.declared.Colored.{Colored}
 use Rattle.screen.specs.declared.Colored.the-variants as colored
 use Rattle.screen.specs.Address.{lineAddress, lineAt, columnAt, attributeRow, attributeColumn}
 use Rattle.screen.specs.Color as color
-use Rattle.ulb.specs.Timed.{Lent, lentWorld}
-use Rattle.ulb.specs.Helpers as ulb
-use Rattle.ulb.specs.Helpers.{helperCall, colorHelped}
+use Rattle.contracts.specs.Timed.{Lent, lentWorld}
+use Rattle.contracts.specs.Helpers as ulb
+use Rattle.contracts.specs.Helpers.{helperCall, colorHelped}
 use Rattle.rustzx.specs.Panics.{done, andThen}
 use Rattle.rustzx.specs.Addresses as rust
 use Rattle.rustzx.specs.Colors.{fromBits, colorByte}

@@ -26,8 +26,8 @@ use Rattle.answers.specs.declared.Verdict.the-variants.{Accepted}
 use Rattle.answers.specs.Answers.{numberAnswer}
 use Rattle.answers.specs.Judges.{judgeState, judgeTold, judgeRead, judgeWrite, judgeLoad, judgeRamPage, judgeBlock, judgeShown}
 use Rattle.answers.proofs.Accepted.{ready-state, ready-told, ready-read, ready-write, ready-load, ready-ram-page, ready-block, ready-shown}
-use Rattle.ulb.specs.Plain as ulb
-use Rattle.ulb.specs.Plain.{tell, withPaging, withPassed}
+use Rattle.contracts.specs.Plain as ulb
+use Rattle.contracts.specs.Plain.{tell, withPaging, withPassed}
 use Rattle.rustzx.specs.Controller.{ZXController}
 use Rattle.rustzx.specs.Related.{Related}
 use Rattle.rustzx.specs.Pokes.{poking, byteWrite, pageLoad, passedReset}

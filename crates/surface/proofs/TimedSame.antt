@@ -22,8 +22,8 @@ use Rattle.bus.proofs.TimedCalls.{Timed, plain-timed, address-timed, read-timed
 use Rattle.answers.specs.declared.Verdict.{Verdict}
 use Rattle.answers.specs.declared.Verdict.the-variants.{Accepted}
 use Rattle.answers.proofs.Accepted.{ready-wait, ready-port}
-use Rattle.ulb.specs.Timed as ulb
-use Rattle.ulb.specs.Timed.{Lent, lentBy, lentWorld, timed, noValue, judgeWaitOf, judgePortOf}
+use Rattle.contracts.specs.Timed as ulb
+use Rattle.contracts.specs.Timed.{Lent, lentBy, lentWorld, timed, noValue, judgeWaitOf, judgePortOf}
 use Rattle.rustzx.specs.Controller.{ZXController}
 use Rattle.rustzx.specs.Related.{Related}
 use Rattle.rustzx.specs.Calls.{Call, waitInternal, waitMreq, waitNoMreq, readIo, writeIo, Given, partOf, answerOf}

@@ -8,8 +8,8 @@ use mathlib.Core.List.{List, [], _∷_}
 use Rattle.machine.specs.declared.ZXMachine.{ZXMachine}
 use Rattle.bus.specs.World.{World}
 use Rattle.answers.specs.Answers.{timedAnswer, numberAnswer}
-use Rattle.ulb.specs.Timed.{Outcome, lentBy}
-use Rattle.ulb.specs.Plain.{Told}
+use Rattle.contracts.specs.Timed.{Outcome, lentBy}
+use Rattle.contracts.specs.Plain.{Told}
 use Rattle.rustzx.specs.Panics.{Run, done, panics}
 use Rattle.rustzx.specs.Controller.{ZXController}
 use Rattle.rustzx.specs.Related.{Related}

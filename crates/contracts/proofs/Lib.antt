@@ -1,0 +1,5 @@
+pub mod Leaves
+pub mod Determined
+pub mod Refusals
+pub mod Parts
+pub mod Sound

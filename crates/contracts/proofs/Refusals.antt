@@ -1,0 +1,347 @@
+-- REFUSALS: of every call of the C surface, that the number it returns is the first, in document 01's order, whose condition holds, and 0
+-- exactly when none holds (`-numbered`); and that where it is not 0 nothing is altered: the slices are as they were, and the answer has the
+-- number and then zeros, or is untouched if its length is wrong (`-unaltered`).
+-- Assumes nothing.
+use Prim.Native.Nat.{ℕ}
+use mathlib.Core.Path.{_≡_, refl, sym, ap, _∙_}
+use mathlib.Core.Bool.{Bool, true, false, cond, not}
+use mathlib.Core.List.{List, [], _∷_}
+use native.Mathlib.Omega.{arith}
+use lib.Dec.{ltb, leb}
+use lib.ListN.{length, getD}
+use Rattle.machine.specs.declared.ZXMachine.{ZXMachine}
+use Rattle.machine.specs.declared.ZXMachine.the-variants.{Sinclair48K}
+use Rattle.record.specs.declared.Bus.{Bus}
+use Rattle.record.specs.Record.{machineOf, startRecord}
+use Rattle.bus.specs.World.{Core, started}
+use Rattle.bus.specs.Turns.{Part}
+use Rattle.screen.specs.declared.Helped.{Helped}
+use Rattle.screen.specs.declared.Helped.the-variants as helped
+use Rattle.screen.specs.declared.ZXColor.{ZXColor}
+use Rattle.screen.specs.declared.Colored.the-variants as colored
+use Rattle.screen.specs.Address.{isAttribute}
+use Rattle.screen.specs.Color.{colorOf, colorNumber}
+use Rattle.answers.specs.declared.Refusal.{Refusal}
+use Rattle.answers.specs.declared.Refusal.the-variants.{BadMachine, BadLength, Unsound, BadFlag, LongWait, FramesFull, BadPage, BadNumber}
+use Rattle.answers.specs.declared.Verdict.{Verdict}
+use Rattle.answers.specs.declared.Verdict.the-variants.{Refused, Accepted}
+use Rattle.answers.specs.Refusals.{refusalNumber, Cause, cause, judged}
+use Rattle.answers.specs.Judges.{numberFits, unless, judgeState, judgeTold, judgeRead, judgeWrite, judgeLoad, judgeRamPageTold, judgeBlockTold, judgeShownTold, judgeStill}
+use Rattle.answers.specs.Answers.{refusedAnswer}
+use Rattle.answers.specs.Order.{Ordered, Numbered, documentOrder, numbersOf, standIn, stateCauses, waitCauses, portCauses, toldCauses, readCauses, writeCauses, loadCauses, ramPageToldCauses, blockToldCauses, shownToldCauses, stillCauses}
+use Rattle.answers.proofs.Order.{by-list, state-ordered, wait-ordered, port-ordered, told-ordered, read-ordered, write-ordered, load-ordered, ram-page-told-ordered, block-told-ordered, shown-told-ordered, still-ordered}
+use Rattle.contracts.specs.Timed.{Lent, Outcome, timed, judgeWaitOf, judgePortOf, waitInternal, waitAt, readIo, writeIo, lentBy, startFitsOf, Started, startLeaves, start}
+use Rattle.contracts.specs.Plain.{codeOf, Told, told, tell, Changed, change, Repaged, repage, readInternal, writeInternal, write7ffdCall, read7ffd, intActive, framesCount, resetFrames, loadPage, stillPicture, ramPageTold, blockTold, shownTold}
+use Rattle.contracts.specs.Helpers.{help, helperCall, colorHelped, bitmapLineAddr, bitmapLineRel, bitmapColRel, attrRowRel, attrColRel, colorFromBits}
+
+-- ---- numbers: a refusal is known by its number, which is not 0
+refusalOf : ℕ → Refusal
+refusalOf n = getD (Unsound ∷ BadMachine ∷ BadLength ∷ Unsound ∷ BadFlag ∷ LongWait ∷ FramesFull ∷ BadPage ∷ BadNumber ∷ []) n Unsound
+
+known : (e : Refusal) → refusalOf (refusalNumber e) ≡ e
+unfolding refusalOf
+known BadMachine = refl
+known BadLength = refl
+known Unsound = refl
+known BadFlag = refl
+known LongWait = refl
+known FramesFull = refl
+known BadPage = refl
+known BadNumber = refl
+
+same-refusal : (e f : Refusal) → refusalNumber e ≡ refusalNumber f → e ≡ f
+same-refusal e f p = sym (known e) ∙ ap refusalOf p ∙ known f
+
+-- document 01's refusals have the numbers 1 to 8
+pub not-zero : (e : Refusal) → refusalNumber e ≡ 0 → ⊥
+not-zero BadMachine p = omega arith
+not-zero BadLength p = omega arith
+not-zero Unsound p = omega arith
+not-zero BadFlag p = omega arith
+not-zero LongWait p = omega arith
+not-zero FramesFull p = omega arith
+not-zero BadPage p = omega arith
+not-zero BadNumber p = omega arith
+
+zero-accepts : (v : Verdict) → codeOf v ≡ 0 → (bus : Bus) × (v ≡ Accepted bus)
+zero-accepts (Refused e) p = absurd (not-zero e p)
+zero-accepts (Accepted bus) p = (bus, refl)
+
+number-refuses : (v : Verdict) (e : Refusal) → codeOf v ≡ refusalNumber e → v ≡ Refused e
+number-refuses (Refused f) e p = ap Refused (same-refusal f e p)
+number-refuses (Accepted bus) e p = absurd (not-zero e (sym p))
+
+-- the number of an ordered verdict
+numbered : (v : Verdict) (causes : List Cause) (bus : Bus) (code : ℕ) → code ≡ codeOf v → Ordered v causes bus → Numbered code causes
+numbered v causes bus code c o =
+    record {
+      stand = o .stand;
+      zeroByNone = λ p. let a = zero-accepts v (sym c ∙ p) in o .acceptedByNone (a .0) (a .1) .0;
+      noneIsZero = λ n. c ∙ ap codeOf (o .noneAccepts n);
+      numberByFirst = λ e p. o .refusedByFirst e (number-refuses v e (sym c ∙ p));
+      firstIsNumber = λ e f. c ∙ ap codeOf (o .firstRefuses e f);
+    }
+
+-- ---- each form of a call, by its verdict
+module _ (part : ZXMachine → Part) (value : ZXMachine → Core → ℕ) (l : Lent) (answer : List ℕ) where
+  timed-code : (v : Verdict) (o : Outcome) → o ≡ timed part value l answer v → o .code ≡ codeOf v
+  unfolding timed
+  timed-code (Refused e) o p = ap (λ (x : Outcome). x .code) p
+  timed-code (Accepted bus) o p = ap (λ (x : Outcome). x .code) p
+
+  timed-kept : (v : Verdict) (o : Outcome) → o ≡ timed part value l answer v → (o .code ≡ 0 → ⊥)
+      → (o .slices ≡ l) × (o .answer ≡ refusedAnswer 10 (o .code) answer)
+  unfolding timed
+  timed-kept (Refused e) o p n = rw p (refl, refl)
+  timed-kept (Accepted bus) o p n = absurd (n (ap (λ (x : Outcome). x .code) p))
+
+module _ (number : Bus → ℕ) (answer : List ℕ) where
+  told-code : (v : Verdict) (o : Told) → o ≡ tell number answer v → o .code ≡ codeOf v
+  told-code (Refused e) o p = ap (λ (x : Told). x .code) p
+  told-code (Accepted bus) o p = ap (λ (x : Told). x .code) p
+
+  told-kept : (v : Verdict) (o : Told) → o ≡ tell number answer v → (o .code ≡ 0 → ⊥) → o .answer ≡ refusedAnswer 5 (o .code) answer
+  told-kept (Refused e) o p n = rw p
+  told-kept (Accepted bus) o p n = absurd (n (ap (λ (x : Told). x .code) p))
+
+module _ (new : Bus → List ℕ) (old : List ℕ) where
+  changed-code : (v : Verdict) (o : Changed) → o ≡ change new old v → o .code ≡ codeOf v
+  changed-code (Refused e) o p = ap (λ (x : Changed). x .code) p
+  changed-code (Accepted bus) o p = ap (λ (x : Changed). x .code) p
+
+  changed-kept : (v : Verdict) (o : Changed) → o ≡ change new old v → (o .code ≡ 0 → ⊥) → o .slice ≡ old
+  changed-kept (Refused e) o p n = rw p
+  changed-kept (Accepted bus) o p n = absurd (n (ap (λ (x : Changed). x .code) p))
+
+module _ (value : ℕ) (state answer : List ℕ) where
+  repaged-code : (v : Verdict) (o : Repaged) → o ≡ repage value state answer v → o .code ≡ codeOf v
+  repaged-code (Refused e) o p = ap (λ (x : Repaged). x .code) p
+  repaged-code (Accepted bus) o p = ap (λ (x : Repaged). x .code) p
+
+  repaged-kept : (v : Verdict) (o : Repaged) → o ≡ repage value state answer v → (o .code ≡ 0 → ⊥)
+      → (o .state ≡ state) × (o .answer ≡ refusedAnswer 5 (o .code) answer)
+  repaged-kept (Refused e) o p n = rw p (refl, refl)
+  repaged-kept (Accepted bus) o p n = absurd (n (ap (λ (x : Repaged). x .code) p))
+
+-- ---- every call
+pub wait-internal-numbered : (l : Lent) (clocks : ℕ) (answer : List ℕ) → Numbered (waitInternal l clocks answer .code) (waitCauses (l .state) (length (l .ram)) (length (l .a)) (length (l .b)) (length (l .border)) clocks (length answer))
+unfolding waitInternal
+wait-internal-numbered l clocks answer = numbered (judgeWaitOf l clocks answer) _ _ _ (timed-code _ _ _ _ (judgeWaitOf l clocks answer) (waitInternal l clocks answer) refl) (wait-ordered (l .state) (length (l .ram)) (length (l .a)) (length (l .b)) (length (l .border)) clocks (length answer))
+
+pub wait-internal-unaltered : (l : Lent) (clocks : ℕ) (answer : List ℕ) → (waitInternal l clocks answer .code ≡ 0 → ⊥) → (waitInternal l clocks answer .slices ≡ l) × (waitInternal l clocks answer .answer ≡ refusedAnswer 10 (waitInternal l clocks answer .code) answer)
+unfolding waitInternal
+wait-internal-unaltered l clocks answer n = timed-kept _ _ _ _ (judgeWaitOf l clocks answer) (waitInternal l clocks answer) refl n
+
+pub wait-at-numbered : (l : Lent) (addr clocks : ℕ) (answer : List ℕ) → Numbered (waitAt l addr clocks answer .code) (waitCauses (l .state) (length (l .ram)) (length (l .a)) (length (l .b)) (length (l .border)) clocks (length answer))
+unfolding waitAt
+wait-at-numbered l addr clocks answer = numbered (judgeWaitOf l clocks answer) _ _ _ (timed-code _ _ _ _ (judgeWaitOf l clocks answer) (waitAt l addr clocks answer) refl) (wait-ordered (l .state) (length (l .ram)) (length (l .a)) (length (l .b)) (length (l .border)) clocks (length answer))
+
+pub wait-at-unaltered : (l : Lent) (addr clocks : ℕ) (answer : List ℕ) → (waitAt l addr clocks answer .code ≡ 0 → ⊥) → (waitAt l addr clocks answer .slices ≡ l) × (waitAt l addr clocks answer .answer ≡ refusedAnswer 10 (waitAt l addr clocks answer .code) answer)
+unfolding waitAt
+wait-at-unaltered l addr clocks answer n = timed-kept _ _ _ _ (judgeWaitOf l clocks answer) (waitAt l addr clocks answer) refl n
+
+pub read-io-numbered : (l : Lent) (devices : List ℕ) (port : ℕ) (answer : List ℕ) → Numbered (readIo l devices port answer .code) (portCauses (l .state) devices (length (l .ram)) (length (l .a)) (length (l .b)) (length (l .border)) (length answer))
+unfolding readIo
+read-io-numbered l devices port answer = numbered (judgePortOf l devices answer) _ _ _ (timed-code _ _ _ _ (judgePortOf l devices answer) (readIo l devices port answer) refl) (port-ordered (l .state) devices (length (l .ram)) (length (l .a)) (length (l .b)) (length (l .border)) (length answer))
+
+pub read-io-unaltered : (l : Lent) (devices : List ℕ) (port : ℕ) (answer : List ℕ) → (readIo l devices port answer .code ≡ 0 → ⊥) → (readIo l devices port answer .slices ≡ l) × (readIo l devices port answer .answer ≡ refusedAnswer 10 (readIo l devices port answer .code) answer)
+unfolding readIo
+read-io-unaltered l devices port answer n = timed-kept _ _ _ _ (judgePortOf l devices answer) (readIo l devices port answer) refl n
+
+pub write-io-numbered : (l : Lent) (devices : List ℕ) (port value : ℕ) (answer : List ℕ) → Numbered (writeIo l devices port value answer .code) (portCauses (l .state) devices (length (l .ram)) (length (l .a)) (length (l .b)) (length (l .border)) (length answer))
+unfolding writeIo
+write-io-numbered l devices port value answer = numbered (judgePortOf l devices answer) _ _ _ (timed-code _ _ _ _ (judgePortOf l devices answer) (writeIo l devices port value answer) refl) (port-ordered (l .state) devices (length (l .ram)) (length (l .a)) (length (l .b)) (length (l .border)) (length answer))
+
+pub write-io-unaltered : (l : Lent) (devices : List ℕ) (port value : ℕ) (answer : List ℕ) → (writeIo l devices port value answer .code ≡ 0 → ⊥) → (writeIo l devices port value answer .slices ≡ l) × (writeIo l devices port value answer .answer ≡ refusedAnswer 10 (writeIo l devices port value answer .code) answer)
+unfolding writeIo
+write-io-unaltered l devices port value answer n = timed-kept _ _ _ _ (judgePortOf l devices answer) (writeIo l devices port value answer) refl n
+
+pub read-internal-numbered : (state rom ram : List ℕ) (addr : ℕ) (answer : List ℕ) → Numbered (readInternal state rom ram addr answer .code) (readCauses state (length rom) (length ram) (length answer))
+unfolding readInternal
+read-internal-numbered state rom ram addr answer = numbered (judgeRead state (length rom) (length ram) (length answer)) _ _ _ (told-code _ _ (judgeRead state (length rom) (length ram) (length answer)) (readInternal state rom ram addr answer) refl) (read-ordered state (length rom) (length ram) (length answer))
+
+pub read-internal-unaltered : (state rom ram : List ℕ) (addr : ℕ) (answer : List ℕ) → (readInternal state rom ram addr answer .code ≡ 0 → ⊥) → readInternal state rom ram addr answer .answer ≡ refusedAnswer 5 (readInternal state rom ram addr answer .code) answer
+unfolding readInternal
+read-internal-unaltered state rom ram addr answer n = told-kept _ _ (judgeRead state (length rom) (length ram) (length answer)) (readInternal state rom ram addr answer) refl n
+
+pub write-internal-numbered : (state ram : List ℕ) (addr value : ℕ) → Numbered (writeInternal state ram addr value .code) (writeCauses state (length ram))
+unfolding writeInternal
+write-internal-numbered state ram addr value = numbered (judgeWrite state (length ram)) _ _ _ (changed-code _ _ (judgeWrite state (length ram)) (writeInternal state ram addr value) refl) (write-ordered state (length ram))
+
+pub write-internal-unaltered : (state ram : List ℕ) (addr value : ℕ) → (writeInternal state ram addr value .code ≡ 0 → ⊥) → writeInternal state ram addr value .slice ≡ ram
+unfolding writeInternal
+write-internal-unaltered state ram addr value n = changed-kept _ _ (judgeWrite state (length ram)) (writeInternal state ram addr value) refl n
+
+pub load-page-numbered : (state ram bytes : List ℕ) (page : ℕ) → Numbered (loadPage state ram bytes page .code) (loadCauses state (length ram) (length bytes) page)
+unfolding loadPage
+load-page-numbered state ram bytes page = numbered (judgeLoad state (length ram) (length bytes) page) _ _ _ (changed-code _ _ (judgeLoad state (length ram) (length bytes) page) (loadPage state ram bytes page) refl) (load-ordered state (length ram) (length bytes) page)
+
+pub load-page-unaltered : (state ram bytes : List ℕ) (page : ℕ) → (loadPage state ram bytes page .code ≡ 0 → ⊥) → loadPage state ram bytes page .slice ≡ ram
+unfolding loadPage
+load-page-unaltered state ram bytes page n = changed-kept _ _ (judgeLoad state (length ram) (length bytes) page) (loadPage state ram bytes page) refl n
+
+pub write-7ffd-numbered : (state : List ℕ) (value : ℕ) (answer : List ℕ) → Numbered (write7ffdCall state value answer .code) (toldCauses state (length answer))
+unfolding write7ffdCall
+write-7ffd-numbered state value answer = numbered (judgeTold state (length answer)) _ _ _ (repaged-code _ _ _ (judgeTold state (length answer)) (write7ffdCall state value answer) refl) (told-ordered state (length answer))
+
+pub write-7ffd-unaltered : (state : List ℕ) (value : ℕ) (answer : List ℕ) → (write7ffdCall state value answer .code ≡ 0 → ⊥) → (write7ffdCall state value answer .state ≡ state) × (write7ffdCall state value answer .answer ≡ refusedAnswer 5 (write7ffdCall state value answer .code) answer)
+unfolding write7ffdCall
+write-7ffd-unaltered state value answer n = repaged-kept _ _ _ (judgeTold state (length answer)) (write7ffdCall state value answer) refl n
+
+pub read-7ffd-numbered : (state answer : List ℕ) → Numbered (read7ffd state answer .code) (toldCauses state (length answer))
+unfolding read7ffd
+read-7ffd-numbered state answer = numbered (judgeTold state (length answer)) _ _ _ (told-code _ _ (judgeTold state (length answer)) (read7ffd state answer) refl) (told-ordered state (length answer))
+
+pub read-7ffd-unaltered : (state answer : List ℕ) → (read7ffd state answer .code ≡ 0 → ⊥) → read7ffd state answer .answer ≡ refusedAnswer 5 (read7ffd state answer .code) answer
+unfolding read7ffd
+read-7ffd-unaltered state answer n = told-kept _ _ (judgeTold state (length answer)) (read7ffd state answer) refl n
+
+pub int-active-numbered : (state answer : List ℕ) → Numbered (intActive state answer .code) (toldCauses state (length answer))
+unfolding intActive
+int-active-numbered state answer = numbered (judgeTold state (length answer)) _ _ _ (told-code _ _ (judgeTold state (length answer)) (intActive state answer) refl) (told-ordered state (length answer))
+
+pub int-active-unaltered : (state answer : List ℕ) → (intActive state answer .code ≡ 0 → ⊥) → intActive state answer .answer ≡ refusedAnswer 5 (intActive state answer .code) answer
+unfolding intActive
+int-active-unaltered state answer n = told-kept _ _ (judgeTold state (length answer)) (intActive state answer) refl n
+
+pub frames-count-numbered : (state answer : List ℕ) → Numbered (framesCount state answer .code) (toldCauses state (length answer))
+unfolding framesCount
+frames-count-numbered state answer = numbered (judgeTold state (length answer)) _ _ _ (told-code _ _ (judgeTold state (length answer)) (framesCount state answer) refl) (told-ordered state (length answer))
+
+pub frames-count-unaltered : (state answer : List ℕ) → (framesCount state answer .code ≡ 0 → ⊥) → framesCount state answer .answer ≡ refusedAnswer 5 (framesCount state answer .code) answer
+unfolding framesCount
+frames-count-unaltered state answer n = told-kept _ _ (judgeTold state (length answer)) (framesCount state answer) refl n
+
+pub reset-frames-numbered : (state : List ℕ) → Numbered (resetFrames state .code) (stateCauses state)
+unfolding resetFrames
+reset-frames-numbered state = numbered (judgeState state) _ _ _ (changed-code _ _ (judgeState state) (resetFrames state) refl) (state-ordered state)
+
+pub reset-frames-unaltered : (state : List ℕ) → (resetFrames state .code ≡ 0 → ⊥) → resetFrames state .slice ≡ state
+unfolding resetFrames
+reset-frames-unaltered state n = changed-kept _ _ (judgeState state) (resetFrames state) refl n
+
+pub ram-page-numbered : (state ram : List ℕ) (page : ℕ) (answer : List ℕ) → Numbered (ramPageTold state ram page answer .code) (ramPageToldCauses state (length ram) page (length answer))
+unfolding ramPageTold
+ram-page-numbered state ram page answer = numbered (judgeRamPageTold state (length ram) page (length answer)) _ _ _ (told-code _ _ (judgeRamPageTold state (length ram) page (length answer)) (ramPageTold state ram page answer) refl) (ram-page-told-ordered state (length ram) page (length answer))
+
+pub ram-page-unaltered : (state ram : List ℕ) (page : ℕ) (answer : List ℕ) → (ramPageTold state ram page answer .code ≡ 0 → ⊥) → ramPageTold state ram page answer .answer ≡ refusedAnswer 5 (ramPageTold state ram page answer .code) answer
+unfolding ramPageTold
+ram-page-unaltered state ram page answer n = told-kept _ _ (judgeRamPageTold state (length ram) page (length answer)) (ramPageTold state ram page answer) refl n
+
+pub block-numbered : (state rom ram : List ℕ) (number : ℕ) (answer : List ℕ) → Numbered (blockTold state rom ram number answer .code) (blockToldCauses state (length rom) (length ram) number (length answer))
+unfolding blockTold
+block-numbered state rom ram number answer = numbered (judgeBlockTold state (length rom) (length ram) number (length answer)) _ _ _ (told-code _ _ (judgeBlockTold state (length rom) (length ram) number (length answer)) (blockTold state rom ram number answer) refl) (block-told-ordered state (length rom) (length ram) number (length answer))
+
+pub block-unaltered : (state rom ram : List ℕ) (number : ℕ) (answer : List ℕ) → (blockTold state rom ram number answer .code ≡ 0 → ⊥) → blockTold state rom ram number answer .answer ≡ refusedAnswer 5 (blockTold state rom ram number answer .code) answer
+unfolding blockTold
+block-unaltered state rom ram number answer n = told-kept _ _ (judgeBlockTold state (length rom) (length ram) number (length answer)) (blockTold state rom ram number answer) refl n
+
+pub shown-picture-numbered : (state a b answer : List ℕ) → Numbered (shownTold state a b answer .code) (shownToldCauses state (length a) (length b) (length answer))
+unfolding shownTold
+shown-picture-numbered state a b answer = numbered (judgeShownTold state (length a) (length b) (length answer)) _ _ _ (told-code _ _ (judgeShownTold state (length a) (length b) (length answer)) (shownTold state a b answer) refl) (shown-told-ordered state (length a) (length b) (length answer))
+
+pub shown-picture-unaltered : (state a b answer : List ℕ) → (shownTold state a b answer .code ≡ 0 → ⊥) → shownTold state a b answer .answer ≡ refusedAnswer 5 (shownTold state a b answer .code) answer
+unfolding shownTold
+shown-picture-unaltered state a b answer n = told-kept _ _ (judgeShownTold state (length a) (length b) (length answer)) (shownTold state a b answer) refl n
+
+pub still-picture-numbered : (state ram picture : List ℕ) (flash : ℕ) → Numbered (stillPicture state ram picture flash .code) (stillCauses state (length ram) (length picture) flash)
+unfolding stillPicture
+still-picture-numbered state ram picture flash = numbered (judgeStill state (length ram) (length picture) flash) _ _ _ (changed-code _ _ (judgeStill state (length ram) (length picture) flash) (stillPicture state ram picture flash) refl) (still-ordered state (length ram) (length picture) flash)
+
+pub still-picture-unaltered : (state ram picture : List ℕ) (flash : ℕ) → (stillPicture state ram picture flash .code ≡ 0 → ⊥) → stillPicture state ram picture flash .slice ≡ picture
+unfolding stillPicture
+still-picture-unaltered state ram picture flash n = changed-kept _ _ (judgeStill state (length ram) (length picture) flash) (stillPicture state ram picture flash) refl n
+
+-- an answer of the wrong length is left alone
+left-alone : (answer : List ℕ) (n : ℕ) → numberFits (length answer) ≡ false → answer ≡ refusedAnswer 5 n answer
+unfolding refusedAnswer
+left-alone answer n e = rw e
+
+-- ---- a call without a record to judge: the numbers of two causes, whatever record a verdict would hold
+two-numbered : (causes : List Cause) (code : ℕ) (bus : Bus) → code ≡ codeOf (judged causes bus) → standIn (numbersOf causes) documentOrder ≡ true → Numbered code causes
+two-numbered causes code bus c s = numbered (judged causes bus) causes bus code c (by-list (judged causes bus) causes bus refl s)
+
+-- ---- start: "start: machine above 1", then the lengths; the record is not judged
+abbrev pub startCauses : Lent → ℕ → List Cause
+startCauses l machine = cause BadMachine (ltb 1 machine) ∷ unless (startFitsOf (machineOf machine) l) ∷ []
+
+module _ (l new : Lent) where
+  abbrev startBy : Bool → Bool → Started
+  startBy s t = cond s (startLeaves (refusalNumber BadMachine) l) (cond t (startLeaves 0 new) (startLeaves (refusalNumber BadLength) l))
+
+  start-code : (s t : Bool) (bus : Bus) → startBy s t .code ≡ codeOf (judged (cause BadMachine s ∷ unless t ∷ []) bus)
+  unfolding judged
+  start-code true t bus = refl
+  start-code false true bus = refl
+  start-code false false bus = refl
+
+  start-kept : (s t : Bool) → (startBy s t .code ≡ 0 → ⊥) → startBy s t .slices ≡ l
+  start-kept true t n = refl
+  start-kept false true n = absurd (n refl)
+  start-kept false false n = refl
+
+pub start-numbered : (l : Lent) (machine : ℕ) → Numbered (start l machine .code) (startCauses l machine)
+unfolding start standIn
+start-numbered l machine =
+    let m = machineOf machine in
+    two-numbered _ _ (startRecord m) (start-code l (lentBy m (started m)) (ltb 1 machine) (startFitsOf m l) (startRecord m)) refl
+
+pub start-unaltered : (l : Lent) (machine : ℕ) → (start l machine .code ≡ 0 → ⊥) → start l machine .slices ≡ l
+unfolding start
+start-unaltered l machine n =
+    let m = machineOf machine in
+    start-kept l (lentBy m (started m)) (ltb 1 machine) (startFitsOf m l) n
+
+-- ---- the helpers: the answer's length, then 8, "a helper's number outside its range"
+abbrev pub helperCauses : Bool → List ℕ → List Cause
+helperCauses within answer = unless (numberFits (length answer)) ∷ cause BadNumber (not within) ∷ []
+
+-- a helper that answers within its range only
+abbrev ranged : Bool → ℕ → Helped
+ranged t k = cond t (helped.Number k) helped.OutOfRange
+
+helper-code : (t f : Bool) (k : ℕ) (answer : List ℕ) (bus : Bus)
+    → cond f (help (ranged t k) answer) (told (refusalNumber BadLength) answer) .code ≡ codeOf (judged (unless f ∷ cause BadNumber (not t) ∷ []) bus)
+unfolding judged
+helper-code true true k answer bus = refl
+helper-code false true k answer bus = refl
+helper-code t false k answer bus = refl
+
+helper-numbered : (t : Bool) (k : ℕ) (answer : List ℕ) → Numbered (helperCall (ranged t k) answer .code) (helperCauses t answer)
+unfolding helperCall standIn
+helper-numbered t k answer =
+    let bus = startRecord Sinclair48K in
+    two-numbered _ _ bus (helper-code t (numberFits (length answer)) k answer bus) refl
+
+pub helper-unaltered : (h : Helped) (answer : List ℕ) → (helperCall h answer .code ≡ 0 → ⊥)
+    → helperCall h answer .answer ≡ refusedAnswer 5 (helperCall h answer .code) answer
+unfolding helperCall
+helper-unaltered h answer n = by h (numberFits (length answer)) refl n where
+  by : (h : Helped) (f : Bool) → numberFits (length answer) ≡ f → (cond f (help h answer) (told (refusalNumber BadLength) answer) .code ≡ 0 → ⊥)
+      → cond f (help h answer) (told (refusalNumber BadLength) answer) .answer
+      ≡ refusedAnswer 5 (cond f (help h answer) (told (refusalNumber BadLength) answer) .code) answer
+  by (helped.Number k) true e n = absurd (n refl)
+  by helped.OutOfRange true e n = refl
+  by h false e n = left-alone answer (refusalNumber BadLength) e
+
+pub bitmap-line-addr-numbered : (line : ℕ) (answer : List ℕ) → Numbered (bitmapLineAddr line answer .code) (helperCauses (leb line 191) answer)
+bitmap-line-addr-numbered line answer = helper-numbered (leb line 191) _ answer
+
+pub bitmap-line-rel-numbered : (addr : ℕ) (answer : List ℕ) → Numbered (bitmapLineRel addr answer .code) (helperCauses (leb addr 0x17FF) answer)
+bitmap-line-rel-numbered addr answer = helper-numbered (leb addr 0x17FF) _ answer
+
+pub bitmap-col-rel-numbered : (addr : ℕ) (answer : List ℕ) → Numbered (bitmapColRel addr answer .code) (helperCauses (leb addr 0x17FF) answer)
+bitmap-col-rel-numbered addr answer = helper-numbered (leb addr 0x17FF) _ answer
+
+pub attr-row-rel-numbered : (addr : ℕ) (answer : List ℕ) → Numbered (attrRowRel addr answer .code) (helperCauses (isAttribute addr) answer)
+attr-row-rel-numbered addr answer = helper-numbered (isAttribute addr) _ answer
+
+pub attr-col-rel-numbered : (addr : ℕ) (answer : List ℕ) → Numbered (attrColRel addr answer .code) (helperCauses (isAttribute addr) answer)
+attr-col-rel-numbered addr answer = helper-numbered (isAttribute addr) _ answer
+
+color-ranged : (t : Bool) (c : ZXColor) → colorHelped (cond t (colored.Color c) colored.OutOfRange) ≡ ranged t (colorNumber c)
+color-ranged true c = refl
+color-ranged false c = refl
+
+pub color-from-bits-numbered : (bits : ℕ) (answer : List ℕ) → Numbered (colorFromBits bits answer .code) (helperCauses (leb bits 7) answer)
+color-from-bits-numbered bits answer = rw (color-ranged (leb bits 7) (colorOf bits)) (helper-numbered (leb bits 7) _ answer)

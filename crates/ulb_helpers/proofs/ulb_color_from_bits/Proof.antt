@@ -1,0 +1,30 @@
+-- The helper's answer goes to C as `help` tells it.
+-- Assumes nothing.
+use mathlib.Core.Path.{ap, _∙_}
+use denote.Ref.{now}
+use Rattle.screen.specs.declared.Helped.{Helped}
+use Rattle.contracts.specs.Helpers.{colorHelped, helperCall}
+use borrow.Author.Needs.{needs}
+use Rattle.ulb_helpers.proofs.ulb_color_from_bits.Statement.{statement}
+use Rattle.ulb_helpers.proofs.ulb_color_from_bits.Tie as tie
+
+from-bits-requires : tie.Need-from-bits-requires
+from-bits-requires c κs = search needs
+
+color-helped-requires : tie.Need-color-helped-requires
+color-helped-requires c κs = search needs
+
+help-requires : tie.Need-help-requires
+help-requires c κs = search needs
+
+same-length : tie.Need-same-length
+same-length c = search needs
+
+returns : tie.Need-returns
+returns c =
+    c .before .before .help .ensures
+    ∙ ap (λ (h : Helped). helperCall h (now (c .before .before .before .before .before .before .before .args .answer))) (c .before .before .before .before .color-helped .ensures ∙ ap colorHelped (c .before .before .before .before .before .from-bits .ensures))
+
+pub ulb-color-from-bits-spec : {M : Type 1} → statement M
+ulb-color-from-bits-spec =
+    tie.close (tie.spec from-bits-requires color-helped-requires help-requires same-length returns)
