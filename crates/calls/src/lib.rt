@@ -1,4 +1,4 @@
-// What it is: the timed calls of the bus, after rustzx's controller.rs: waits at an address, port reads and port writes, over the lent memory.
+// What it is: the port calls of the bus, after rustzx's controller.rs: port reads and port writes, over the lent memory. Waits at an address stand in crate `contention`.
 // What it promises: each call's turn is exactly document 01's list of steps and acts, its value or code the one of its order; only room for the call's steps is asked, as one record `Ready`.
 // Where its definitions stand: crate bus, specs/Calls.antt (the calls) and specs/Turns.antt (steps one after the other); crate steps, specs/Turned.antt (`Ready`).
 ghost use mathlib.Core.Path.{_≡_};
@@ -10,7 +10,7 @@ ghost use Rattle.memory.specs.Paging.{write7ffd, pagedCode};
 ghost use Rattle.memory.specs.Memory.{byteAt};
 ghost use Rattle.bus.specs.Time.{colour};
 ghost use Rattle.bus.specs.Turns.{turned, ranBy};
-ghost use Rattle.bus.specs.Calls.{heldStep, delayed, addressWait, firstPart, lastPart, portRead, floatingBus, answered, readValue, pagingWrite, actedOn, portWrite, writeCode};
+ghost use Rattle.bus.specs.Calls.{portRead, floatingBus, answered, readValue, pagingWrite, actedOn, portWrite, writeCode};
 ghost use Rattle.steps.specs.Turned.{turnOf, coreOf, Ready};
 use border::Beam;
 use machine::ZXMachine;
@@ -32,107 +32,6 @@ pub struct ReadTurn {
 pub struct WriteTurn {
     pub turn: Turning,
     pub code: u8,
-}
-
-// A step of the delay that is due now, and n more.
-pub fn do_contention_and_wait(
-    t: Turning,
-    n: u32,
-    ram: &[u8],
-    a: &mut [u8],
-    b: &mut [u8],
-    border: &mut [u8],
-) -> Turning
-    requires { ⌜ Ready (turnOf t (now ram) (now a) (now b) (now border)) 1 (n + 6) ⌝ }
-    ensures { λ r. ⌜ turnOf r (now (ram .entry)) (now (a .exit)) (now (b .exit)) (now (border .exit))
-        ≡ ranBy (heldStep (t .bus .machine) n) (turnOf t (now (ram .entry)) (now (a .entry)) (now (b .entry)) (now (border .entry))) ⌝ }
-{
-    let bus = t.bus;
-    let m = bus.machine;
-    let contention = m.contention_clocks(bus.clock);
-    steps::wait_internal(t, contention + n, ram, a, b, border)
-}
-
-// A step of the delay, if the page at the address is contended.
-pub fn do_contention(
-    t: Turning,
-    addr: u16,
-    ram: &[u8],
-    a: &mut [u8],
-    b: &mut [u8],
-    border: &mut [u8],
-) -> Turning
-    requires { ⌜ Ready (turnOf t (now ram) (now a) (now b) (now border)) 1 6 ⌝ }
-    ensures { λ r. ⌜ turnOf r (now (ram .entry)) (now (a .exit)) (now (b .exit)) (now (border .exit))
-        ≡ ranBy (delayed (t .bus .machine) addr) (turnOf t (now (ram .entry)) (now (a .entry)) (now (b .entry)) (now (border .entry))) ⌝ }
-{
-    let bus = t.bus;
-    let m = bus.machine;
-    if memory::addr_is_contended(m, bus.paging, addr) {
-        do_contention_and_wait(t, 0, ram, a, b, border)
-    } else {
-        t
-    }
-}
-
-// A wait at an address, with a memory request or without one.
-pub fn wait_mreq(
-    t: Turning,
-    addr: u16,
-    n: u32,
-    ram: &[u8],
-    a: &mut [u8],
-    b: &mut [u8],
-    border: &mut [u8],
-) -> Turning
-    requires { ⌜ Ready (turnOf t (now ram) (now a) (now b) (now border)) 2 (n + 6) ⌝ }
-    ensures { λ r. ⌜ turnOf r (now (ram .entry)) (now (a .exit)) (now (b .exit)) (now (border .exit))
-        ≡ ranBy (addressWait (t .bus .machine) addr n) (turnOf t (now (ram .entry)) (now (a .entry)) (now (b .entry)) (now (border .entry))) ⌝ }
-{
-    let held = do_contention(t, addr, ram, a, b, border);
-    steps::wait_internal(held, n, ram, a, b, border)
-}
-
-// The first part of a port call: the port is looked up as an address.
-pub fn io_contention_first(
-    t: Turning,
-    port: u16,
-    ram: &[u8],
-    a: &mut [u8],
-    b: &mut [u8],
-    border: &mut [u8],
-) -> Turning
-    requires { ⌜ Ready (turnOf t (now ram) (now a) (now b) (now border)) 2 7 ⌝ }
-    ensures { λ r. ⌜ turnOf r (now (ram .entry)) (now (a .exit)) (now (b .exit)) (now (border .exit))
-        ≡ ranBy (firstPart (t .bus .machine) port) (turnOf t (now (ram .entry)) (now (a .entry)) (now (b .entry)) (now (border .entry))) ⌝ }
-{
-    wait_mreq(t, port, 1, ram, a, b, border)
-}
-
-// The last part of a port call.
-pub fn io_contention_last(
-    t: Turning,
-    port: u16,
-    ram: &[u8],
-    a: &mut [u8],
-    b: &mut [u8],
-    border: &mut [u8],
-) -> Turning
-    requires { ⌜ Ready (turnOf t (now ram) (now a) (now b) (now border)) 3 20 ⌝ }
-    ensures { λ r. ⌜ turnOf r (now (ram .entry)) (now (a .exit)) (now (b .exit)) (now (border .exit))
-        ≡ ranBy (lastPart (t .bus .machine) port) (turnOf t (now (ram .entry)) (now (a .entry)) (now (b .entry)) (now (border .entry))) ⌝ }
-{
-    let bus = t.bus;
-    let m = bus.machine;
-    if m.port_is_contended(port) {
-        return do_contention_and_wait(t, 2, ram, a, b, border);
-    }
-    if memory::addr_is_contended(m, bus.paging, port) {
-        let one = do_contention_and_wait(t, 1, ram, a, b, border);
-        let two = do_contention_and_wait(one, 1, ram, a, b, border);
-        return do_contention_and_wait(two, 0, ram, a, b, border);
-    }
-    steps::wait_internal(t, 2, ram, a, b, border)
 }
 
 // The byte at an address of the picture, which is never in ROM, so that none is lent.
@@ -187,8 +86,8 @@ pub fn read_io(
         ≡ ranBy (portRead (t .bus .machine) port) (turnOf t (now (ram .entry)) (now (a .entry)) (now (b .entry)) (now (border .entry))))
         × (r .value ≡ readValue (t .bus .machine) devices port (coreOf (t .bus) (now (ram .entry)))) ⌝ }
 {
-    let first = io_contention_first(t, port, ram, a, b, border);
-    let last = io_contention_last(first, port, ram, a, b, border);
+    let first = contention::io_contention_first(t, port, ram, a, b, border);
+    let last = contention::io_contention_last(first, port, ram, a, b, border);
     let bus = last.bus;
     let value = read_value(ports::read_port(devices, port), bus, ram);
     let turn = steps::wait_internal(last, 1, ram, a, b, border);
@@ -299,14 +198,14 @@ pub fn write_io(
         ≡ ranBy (portWrite (t .bus .machine) devices port value) (turnOf t (now (ram .entry)) (now (a .entry)) (now (b .entry)) (now (border .entry))))
         × (r .code ≡ writeCode (t .bus .machine) devices port value (coreOf (t .bus) (now (ram .entry)))) ⌝ }
 {
-    let first = io_contention_first(t, port, ram, a, b, border);
+    let first = contention::io_contention_first(t, port, ram, a, b, border);
     let bus = first.bus;
     let m = bus.machine;
     let written = ports::write_port(m, devices, port);
     let taken = memory::write_7ffd(m, bus.paging, value);
     let code = ports::written_code(written, memory::paged_code(taken));
     let acted = act(first, written, value, border);
-    let last = io_contention_last(acted, port, ram, a, b, border);
+    let last = contention::io_contention_last(acted, port, ram, a, b, border);
     let turn = steps::wait_internal(last, 1, ram, a, b, border);
     WriteTurn { turn, code }
 }

@@ -187,9 +187,14 @@ module _ (m : ZXMachine) (clk : ℕ) where
         (λ l. moved) (λ l. stayed (omega arith))
 
 -- ---- the screen looks at phase, 7FFD byte and RAM of the core, and at nothing else
-pub same-core : (m : ZXMachine) (s : ZXScreen) (c c′ : Core) (w : Screen) → SameScreen m s c w
-    → c′ .phase ≡ c .phase → c′ .paging ≡ c .paging → c′ .ram ≡ c .ram → SameScreen m s c′ w
-same-core m s c c′ w r p q u =
+abbrev pub withBanks : ScreenBank → ScreenBank → ZXScreen → ZXScreen
+withBanks x y s =
+    record { lastBlocks = s .lastBlocks; flash = s .flash; frameCounter = s .frameCounter; buffer = s .buffer; backBuffer = s .backBuffer; bank0 = x; bank1 = y; activeBank = s .activeBank }
+
+-- banks that mirror the core's RAM can take the place of a screen's own
+pub banks-screen : (m : ZXMachine) (x y : ScreenBank) (s : ZXScreen) (c c′ : Core) (w : Screen) → SameScreen m s c w
+    → c′ .phase ≡ c .phase → c′ .paging ≡ c .paging → Mirrored m x y (c′ .ram) → SameScreen m (withBanks x y s) c′ w
+banks-screen m x y s c c′ w r p q mi =
     record {
       position = r .position;
       columns = r .columns;
@@ -198,8 +203,13 @@ same-core m s c c′ w r p q u =
       shown = r .shown ∙ ap (λ (n : ℕ). cond (showsA n) (w .a) (w .b)) (sym p);
       hidden = r .hidden ∙ ap (λ (n : ℕ). cond (showsA n) (w .b) (w .a)) (sym p);
       active = r .active ∙ ap (activeOf m) (sym q);
-      mirrored = subst (Mirrored m (s .bank0) (s .bank1)) (sym u) (r .mirrored);
+      mirrored = mi;
     }
+
+pub same-core : (m : ZXMachine) (s : ZXScreen) (c c′ : Core) (w : Screen) → SameScreen m s c w
+    → c′ .phase ≡ c .phase → c′ .paging ≡ c .paging → c′ .ram ≡ c .ram → SameScreen m s c′ w
+same-core m s c c′ w r p q u =
+    banks-screen m (s .bank0) (s .bank1) s c c′ w r p q (subst (Mirrored m (s .bank0) (s .bank1)) (sym u) (r .mirrored))
 
 -- ---- a closing
 -- flash after n closings: switched at each multiple of 16, so on in phases 1 to 16

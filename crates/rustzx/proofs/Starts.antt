@@ -11,15 +11,16 @@ use Rattle.machine.specs.declared.ZXMachine.the-variants.{Sinclair48K, Sinclair
 use Rattle.machine.specs.Numbers.{specsOf}
 use Rattle.offsets.specs.Offset.{lineStart, offsetOf}
 use Rattle.screen.specs.Color.{attributeOf}
+use Rattle.memory.specs.Paging.{memoryMap, shownPage}
 use Rattle.memory.specs.Memory.{ramPage}
 use Rattle.bus.specs.World.{clearRam, clearPicture, clearBorder, started}
 use Rattle.bus.proofs.Kept.{started-sound}
-use Rattle.rustzx.specs.Memory.{zeros}
+use Rattle.rustzx.specs.Memory.{zeros, newMemory}
 use Rattle.rustzx.specs.Screen as screen
 use Rattle.rustzx.specs.Screen.{blackAttribute, newBank}
 use Rattle.rustzx.specs.Border as border
-use Rattle.rustzx.specs.Controller.{new, withRom}
-use Rattle.rustzx.specs.Related.{Mirrors, SameBorder, Related}
+use Rattle.rustzx.specs.Controller.{paged, firstBank, new, withRom}
+use Rattle.rustzx.specs.Related.{Mirrors, Mirrored, activeOf, SameBorder, pagingOpen, Related}
 use Rattle.rustzx.proofs.Steps.{sound-in-step}
 
 zeros-clear : (m : ZXMachine) (n : ℕ) → n ≡ specsOf m .ram → zeros n ≡ clearRam m
@@ -67,55 +68,40 @@ same-borders = refl
 new-border : SameBorder border.newBorder (started Sinclair48K .edge)
 new-border = record { pixels = same-borders; beam = refl; colour = refl; blocked = refl; unchanged = λ e. refl }
 
+-- the start of either machine, from what only its own case decides
+start-by : (m : ZXMachine) (rom : List ℕ) → length rom ≡ specsOf m .rom → newMemory m .ram ≡ clearRam m → newMemory m .map ≡ memoryMap m 0
+    → 0 ≡ activeOf m 0 → paged m ≡ pagingOpen m 0 → firstBank m ≡ shownPage m 0 → Mirrored m newBank newBank (clearRam m)
+    → Related m rom (withRom rom (new m)) (started m)
+start-by m rom long ram map active enabled bank mirrored =
+    record {
+      machine = refl;
+      memory = rw (ram, map);
+      screen = record {
+        position = refl;
+        columns = omega arith;
+        counter = refl;
+        flash = refl;
+        shown = same-pictures;
+        hidden = same-pictures;
+        active = active;
+        mirrored = mirrored;
+      };
+      border = new-border;
+      reported = refl;
+      clock = refl;
+      passed = refl;
+      enabled = enabled;
+      bank = bank;
+      port = refl;
+      ramLong = ram-long m;
+      romLong = long;
+      inStep = sound-in-step m (started m) (started-sound m);
+    }
+
 -- START.
 pub start-related : (m : ZXMachine) (rom : List ℕ) → length rom ≡ specsOf m .rom → Related m rom (withRom rom (new m)) (started m)
 start-related Sinclair48K rom long =
-    record {
-      machine = refl;
-      memory = rw (zeros-clear Sinclair48K 49152 refl);
-      screen = record {
-        position = refl;
-        columns = omega arith;
-        counter = refl;
-        flash = refl;
-        shown = same-pictures;
-        hidden = same-pictures;
-        active = refl;
-        mirrored = new-mirrors Sinclair48K 0 (omega arith);
-      };
-      border = new-border;
-      reported = refl;
-      clock = refl;
-      passed = refl;
-      enabled = refl;
-      bank = refl;
-      port = refl;
-      ramLong = ram-long Sinclair48K;
-      romLong = long;
-      inStep = sound-in-step Sinclair48K (started Sinclair48K) (started-sound Sinclair48K);
-    }
+    start-by Sinclair48K rom long (zeros-clear Sinclair48K 49152 refl) refl refl refl refl (new-mirrors Sinclair48K 0 (omega arith))
 start-related Sinclair128K rom long =
-    record {
-      machine = refl;
-      memory = rw (zeros-clear Sinclair128K 131072 refl);
-      screen = record {
-        position = refl;
-        columns = omega arith;
-        counter = refl;
-        flash = refl;
-        shown = same-pictures;
-        hidden = same-pictures;
-        active = refl;
-        mirrored = (new-mirrors Sinclair128K 5 (omega arith), new-mirrors Sinclair128K 7 (omega arith));
-      };
-      border = new-border;
-      reported = refl;
-      clock = refl;
-      passed = refl;
-      enabled = refl;
-      bank = refl;
-      port = refl;
-      ramLong = ram-long Sinclair128K;
-      romLong = long;
-      inStep = sound-in-step Sinclair128K (started Sinclair128K) (started-sound Sinclair128K);
-    }
+    start-by Sinclair128K rom long (zeros-clear Sinclair128K 131072 refl) refl refl refl refl
+    (new-mirrors Sinclair128K 5 (omega arith), new-mirrors Sinclair128K 7 (omega arith))

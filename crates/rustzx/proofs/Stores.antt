@@ -23,7 +23,7 @@ use Rattle.memory.specs.Memory.{placeIn, placeOf, poked, ramPage, loaded}
 use Rattle.memory.proofs.Places.{map-holds, exists-fits}
 use Rattle.memory.proofs.Stored.{length-loaded}
 use Rattle.bus.specs.World.{Core, Screen, World}
-use Rattle.bus.specs.Time.{paged, poke, load, flashOn, showsA, inCore, inScreen, inEdge, does}
+use Rattle.bus.specs.Time.{paged, poke, load, inCore, inScreen, inEdge, does}
 use Rattle.bus.specs.Calls.{repaged, pagingWrite}
 use Rattle.bus.proofs.Runs.{worldAfter}
 use Rattle.rustzx.specs.Panics.{Run, done, andThen, each, Ends}
@@ -33,6 +33,7 @@ use Rattle.rustzx.specs.Controller.{ZXController, withMemory, withPaging
 use Rattle.rustzx.specs.Related.{Mirrors, Mirrored, activeOf, SameScreen, memoryOf, Related}
 use Rattle.rustzx.specs.Pokes.{poking, byteWrite}
 use Rattle.rustzx.proofs.Loops.{each-last}
+use Rattle.rustzx.proofs.Screens.{banks-screen}
 use Rattle.rustzx.proofs.Pages.{write-is, remap-is, page-data-is, load-is}
 use Rattle.rustzx.proofs.Banks.{put, update-is, put-mirrors, putAll, all-mirrors}
 
@@ -179,28 +180,8 @@ mirrored-put Sinclair128K p rel v s ram h f r =
 put-screen : (m : ZXMachine) (l : LocalBank) (rel v : ℕ) (s : ZXScreen) (c c′ : Core) (w : Screen) → SameScreen m s c w
     → c′ .phase ≡ c .phase → c′ .paging ≡ c .paging
     → Mirrored m (bankPut l rel v s .bank0) (bankPut l rel v s .bank1) (c′ .ram) → SameScreen m (bankPut l rel v s) c′ w
-put-screen m (some b) rel v s c c′ w r p q mi =
-    record {
-      position = r .position;
-      columns = r .columns;
-      counter = r .counter ∙ sym p;
-      flash = r .flash ∙ ap flashOn (sym p);
-      shown = r .shown ∙ ap (λ (n : ℕ). cond (showsA n) (w .a) (w .b)) (sym p);
-      hidden = r .hidden ∙ ap (λ (n : ℕ). cond (showsA n) (w .b) (w .a)) (sym p);
-      active = r .active ∙ ap (activeOf m) (sym q);
-      mirrored = mi;
-    }
-put-screen m none rel v s c c′ w r p q mi =
-    record {
-      position = r .position;
-      columns = r .columns;
-      counter = r .counter ∙ sym p;
-      flash = r .flash ∙ ap flashOn (sym p);
-      shown = r .shown ∙ ap (λ (n : ℕ). cond (showsA n) (w .a) (w .b)) (sym p);
-      hidden = r .hidden ∙ ap (λ (n : ℕ). cond (showsA n) (w .b) (w .a)) (sym p);
-      active = r .active ∙ ap (activeOf m) (sym q);
-      mirrored = mi;
-    }
+put-screen m (some b) rel v s c c′ w r p q mi = banks-screen m _ _ s c c′ w r p q mi
+put-screen m none rel v s c c′ w r p q mi = banks-screen m _ _ s c c′ w r p q mi
 
 -- ---- a byte written
 module _ (m : ZXMachine) (rom : List ℕ) (c : ZXController) (w : World) (addr v : ℕ) (r : Related m rom c w) where
@@ -319,35 +300,19 @@ refresh-is Sinclair48K mem s c c′ w r p q u long =
     record {
       value = withBank 0 (putAll (ramPage 0 (mem .ram)) 16384) s;
       ends = refresh-page Sinclair48K 0 0 mem s long refl refl;
-      holds = record {
-        position = r .position;
-        columns = r .columns;
-        counter = r .counter ∙ sym p;
-        flash = r .flash ∙ ap flashOn (sym p);
-        shown = r .shown ∙ ap (λ (n : ℕ). cond (showsA n) (w .a) (w .b)) (sym p);
-        hidden = r .hidden ∙ ap (λ (n : ℕ). cond (showsA n) (w .b) (w .a)) (sym p);
-        active = r .active ∙ ap (activeOf Sinclair48K) (sym q);
-        mirrored = rw u (all-mirrors (ramPage 0 (mem .ram)) (s .bank0) (r .mirrored .bitmapLong) (r .mirrored .attributesLong));
-      };
+      holds = banks-screen _ _ _ s c c′ w r p q
+          (rw u (all-mirrors (ramPage 0 (mem .ram)) (s .bank0) (r .mirrored .bitmapLong) (r .mirrored .attributesLong)));
     }
 refresh-is Sinclair128K mem s c c′ w r p q u long =
     let first : ZXScreen = withBank 0 (putAll (ramPage 5 (mem .ram)) 16384) s in
     record {
       value = withBank 1 (putAll (ramPage 7 (mem .ram)) 16384) first;
       ends = ap (refreshPage Sinclair128K 7 mem) (refresh-page Sinclair128K 5 0 mem s long refl refl) ∙ refresh-page Sinclair128K 7 1 mem first long refl refl;
-      holds = record {
-        position = r .position;
-        columns = r .columns;
-        counter = r .counter ∙ sym p;
-        flash = r .flash ∙ ap flashOn (sym p);
-        shown = r .shown ∙ ap (λ (n : ℕ). cond (showsA n) (w .a) (w .b)) (sym p);
-        hidden = r .hidden ∙ ap (λ (n : ℕ). cond (showsA n) (w .b) (w .a)) (sym p);
-        active = r .active ∙ ap (activeOf Sinclair128K) (sym q);
-        mirrored = rw u (
-          all-mirrors (ramPage 5 (mem .ram)) (s .bank0) (r .mirrored .0 .bitmapLong) (r .mirrored .0 .attributesLong),
-          all-mirrors (ramPage 7 (mem .ram)) (s .bank1) (r .mirrored .1 .bitmapLong) (r .mirrored .1 .attributesLong),
-        );
-      };
+      holds = banks-screen _ _ _ s c c′ w r p q
+          (rw u (
+            all-mirrors (ramPage 5 (mem .ram)) (s .bank0) (r .mirrored .0 .bitmapLong) (r .mirrored .0 .attributesLong),
+            all-mirrors (ramPage 7 (mem .ram)) (s .bank1) (r .mirrored .1 .bitmapLong) (r .mirrored .1 .attributesLong),
+          ));
     }
 
 -- PAGE LOAD: the copy and its refresh do not panic where the page is there, and keep the two machines related.

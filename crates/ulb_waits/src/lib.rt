@@ -126,7 +126,7 @@ fn wait_at(
         Verdict::Refused(e) => answers::refuse(answer, 10, e),
         Verdict::Accepted(held) => {
             let begun = steps::begun(held);
-            let turn = calls::wait_mreq(begun, addr, clocks, ram, a, b, border);
+            let turn = contention::wait_mreq(begun, addr, clocks, ram, a, b, border);
             finish(turn, 0, state, answer)
         }
     }

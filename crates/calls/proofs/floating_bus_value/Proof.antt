@@ -1,6 +1,6 @@
 use denote.Ref.{now}
 use Rattle.steps.specs.Turned.{coreOf}
-use Rattle.calls.proofs.CodeCalls.{floating-is}
+use Rattle.contention.proofs.CodeCalls.{floating-is}
 use borrow.Author.Needs.{needs}
 use Rattle.calls.proofs.floating_bus_value.Statement.{statement}
 use Rattle.calls.proofs.floating_bus_value.Tie as tie

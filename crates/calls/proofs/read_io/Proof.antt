@@ -1,7 +1,7 @@
 use denote.Ref.{now}
 use Rattle.steps.specs.Turned.{turnOf}
 use mathlib.Core.Path.{sym, _∙_}
-use Rattle.calls.proofs.CodeCalls.{read-second, read-third, read-end, read-turn, read-taken}
+use Rattle.contention.proofs.CodeCalls.{read-second, read-third, read-end, read-turn, read-taken}
 use borrow.Author.Needs.{needs}
 use Rattle.calls.proofs.read_io.Statement.{statement}
 use Rattle.calls.proofs.read_io.Tie as tie

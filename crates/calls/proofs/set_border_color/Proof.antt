@@ -1,5 +1,5 @@
 use denote.Ref.{now}
-use Rattle.calls.proofs.CodeCalls.{coloured-is}
+use Rattle.contention.proofs.CodeCalls.{coloured-is}
 use borrow.Author.Needs.{needs}
 use Rattle.calls.proofs.set_border_color.Statement.{statement}
 use Rattle.calls.proofs.set_border_color.Tie as tie

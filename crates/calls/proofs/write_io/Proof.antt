@@ -1,7 +1,7 @@
 use denote.Ref.{now}
 use Rattle.steps.specs.Turned.{turnOf}
 use mathlib.Core.Path.{sym, _∙_}
-use Rattle.calls.proofs.CodeCalls.{write-third, write-fourth, write-end, write-turn, write-coded}
+use Rattle.contention.proofs.CodeCalls.{write-third, write-fourth, write-end, write-turn, write-coded}
 use borrow.Author.Needs.{needs}
 use Rattle.calls.proofs.write_io.Statement.{statement}
 use Rattle.calls.proofs.write_io.Tie as tie

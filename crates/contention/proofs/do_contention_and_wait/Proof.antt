@@ -1,9 +1,9 @@
 use denote.Ref.{now}
 use Rattle.steps.specs.Turned.{turnOf}
-use Rattle.calls.proofs.CodeCalls.{held-fits, held-ready, held-is}
+use Rattle.contention.proofs.CodeCalls.{held-fits, held-ready, held-is}
 use borrow.Author.Needs.{needs}
-use Rattle.calls.proofs.do_contention_and_wait.Statement.{statement}
-use Rattle.calls.proofs.do_contention_and_wait.Tie as tie
+use Rattle.contention.proofs.do_contention_and_wait.Statement.{statement}
+use Rattle.contention.proofs.do_contention_and_wait.Tie as tie
 
 contention-clocks-requires : tie.Need-contention-clocks-requires
 contention-clocks-requires c κs = search needs

@@ -1,11 +1,11 @@
 use denote.Ref.{now}
 use Rattle.steps.specs.Turned.{turnOf}
 use Rattle.bus.specs.Calls.{delayed, plainWait}
-use Rattle.calls.proofs.CodeReady.{takes-delayed, ready-after}
-use Rattle.calls.proofs.CodeRuns.{follows}
+use Rattle.contention.proofs.CodeReady.{takes-delayed, ready-after}
+use Rattle.contention.proofs.CodeRuns.{follows}
 use borrow.Author.Needs.{needs}
-use Rattle.calls.proofs.wait_mreq.Statement.{statement}
-use Rattle.calls.proofs.wait_mreq.Tie as tie
+use Rattle.contention.proofs.wait_mreq.Statement.{statement}
+use Rattle.contention.proofs.wait_mreq.Tie as tie
 
 do-contention-requires : tie.Need-do-contention-requires
 do-contention-requires c κs = search needs

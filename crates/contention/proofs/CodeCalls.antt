@@ -30,8 +30,8 @@ use Rattle.bus.specs.Time.{tick, colour, paged, inCore, inScreen, inEdge}
 use Rattle.bus.specs.Turns.{Turn, turned, ran, clocksOf, blocksOf, closedBy, coreAfter, Part, andThen, ranBy}
 use Rattle.bus.specs.Calls.{contended, plainWait, delayed, heldStep, firstPart, lastPart, finalStep, readBefore, portRead, floatingByte, floatingBus, answered, readValue, repaged, pagingWrite, actedOn, portWrite, writeCode}
 use Rattle.steps.specs.Turned.{turnOf, edgeIn, Ready}
-use Rattle.calls.proofs.CodeRuns.{follows, left-machine, left-core}
-use Rattle.calls.proofs.CodeReady.{Takes, takes-plain, takes-held, takes-address, takes-last, takes-acted, ready-less, ready-after}
+use Rattle.contention.proofs.CodeRuns.{follows, left-machine, left-core}
+use Rattle.contention.proofs.CodeReady.{Takes, takes-plain, takes-held, takes-address, takes-last, takes-acted, ready-less, ready-after}
 
 -- waits
 module _ (t : Turn) (n d : ℕ) (due : d ≡ delay (specsOf (t .machine)) (t .world .core .clock)) where

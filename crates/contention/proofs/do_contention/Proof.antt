@@ -1,9 +1,9 @@
 use denote.Ref.{now}
 use Rattle.steps.specs.Turned.{turnOf}
-use Rattle.calls.proofs.CodeCalls.{delayed-yes, delayed-no}
+use Rattle.contention.proofs.CodeCalls.{delayed-yes, delayed-no}
 use borrow.Author.Needs.{needs}
-use Rattle.calls.proofs.do_contention.Statement.{statement}
-use Rattle.calls.proofs.do_contention.Tie as tie
+use Rattle.contention.proofs.do_contention.Statement.{statement}
+use Rattle.contention.proofs.do_contention.Tie as tie
 
 addr-is-contended-requires : tie.Need-addr-is-contended-requires
 addr-is-contended-requires c κs = search needs

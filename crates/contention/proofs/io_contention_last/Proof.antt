@@ -1,10 +1,10 @@
 use denote.Ref.{now}
 use Rattle.steps.specs.Turned.{turnOf}
 use mathlib.Core.Path.{sym, _∙_}
-use Rattle.calls.proofs.CodeCalls.{last-even, last-held, last-plain, last-second, last-third, last-end}
+use Rattle.contention.proofs.CodeCalls.{last-even, last-held, last-plain, last-second, last-third, last-end}
 use borrow.Author.Needs.{needs}
-use Rattle.calls.proofs.io_contention_last.Statement.{statement}
-use Rattle.calls.proofs.io_contention_last.Tie as tie
+use Rattle.contention.proofs.io_contention_last.Statement.{statement}
+use Rattle.contention.proofs.io_contention_last.Tie as tie
 
 port-is-contended-requires : tie.Need-port-is-contended-requires
 port-is-contended-requires c κs = search needs
