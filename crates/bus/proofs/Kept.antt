@@ -21,10 +21,10 @@ use Rattle.record.specs.Record.{startRecord}
 use Rattle.record.proofs.Soundness.{sound-facts, start-sound}
 use Rattle.border.specs.Edge.{Edge, inked, inkedAt, finished}
 use Rattle.bus.specs.World.{World, busOf, started}
-use Rattle.bus.specs.Time.{Op, tick, colour, paged, poke, load, unpass, closes, caughtUp, inCore, inScreen, inEdge, does}
+use Rattle.bus.specs.Time.{Op, tick, colour, paged, poke, load, unpass, closes, caughtUp, inCore, inScreen, inEdge, does, worldAfter}
 use Rattle.bus.specs.Turns.{clocksOf, fresh, Part, ranBy}
 use Rattle.bus.proofs.OneStep.{frame-long, closes-at, goes-on-at, core-closed, core-goes, screen-closed, screen-goes, edge-closed, edge-goes, op-moves}
-use Rattle.bus.proofs.Runs.{clocksIn, worldAfter, ran-world}
+use Rattle.bus.proofs.Runs.{clocksIn, ran-world}
 use Rattle.bus.proofs.TimedCalls.{InCall, AllInCall, Timed}
 
 -- A world is sound if its state record is: document 01's clauses, one by one, as crate `record` has them.

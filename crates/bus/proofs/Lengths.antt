@@ -17,9 +17,9 @@ use Rattle.border.proofs.Fills.{length-filled}
 use Rattle.memory.specs.Memory.{ramPage}
 use Rattle.memory.proofs.Stored.{length-loaded}
 use Rattle.bus.specs.World.{Core, Screen, World, clearRam, clearPicture, clearBorder, started}
-use Rattle.bus.specs.Time.{Look, Op, tick, colour, paged, poke, load, unpass, closes, lookAt, showsA, painted, caughtUp, inCore, inScreen, inEdge, does}
+use Rattle.bus.specs.Time.{Look, Op, tick, colour, paged, poke, load, unpass, closes, lookAt, showsA, paintFrom, caughtUp, inCore, inScreen, inEdge, does, worldAfter}
 use Rattle.bus.specs.Turns.{fresh, Part, ranBy}
-use Rattle.bus.proofs.Runs.{worldAfter, ran-world}
+use Rattle.bus.proofs.Runs.{ran-world}
 use Rattle.bus.proofs.TimedCalls.{InCall, AllInCall, Timed}
 
 -- the lent memory of two worlds has the same lengths
@@ -38,7 +38,7 @@ Fits (poke i v) w = Unit {0}
 Fits (load p bytes) w = (length bytes ≡ 16384) × (16384 * p + 16384 ≤ length (w .core .ram))
 Fits unpass w = Unit {0}
 
-painted-length : (l : Look) (from : ℕ) (picture : List ℕ) → length (painted l from picture) ≡ length picture
+painted-length : (l : Look) (from : ℕ) (picture : List ℕ) → length (paintFrom l from picture) ≡ length picture
 painted-length l from picture = length-paint (ramPage (l .page) (l .ram)) (l .flash) from (l .at - from) picture
 
 -- either picture, painted or left alone

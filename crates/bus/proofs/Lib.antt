@@ -1,8 +1,11 @@
 pub mod Runs
 pub mod OneStep
 pub mod PortClocks
+pub mod Pages
+pub mod Flashing
 pub mod TimedCalls
 pub mod Lengths
 pub mod Kept
 pub mod Closing
 pub mod Reports
+pub mod Moments

@@ -176,7 +176,7 @@ module _ (m : ZXMachine) where
   repaged-still paging.Locked c = (refl, refl)
   repaged-still (paging.Taken v) c = (refl, refl)
 
-  acted-still : (w : Written) (v : ℕ) (c : Core) → (clocksIn (actedOn m w v c) ≡ 0) × (coreAfter m (actedOn m w v c) c .clock ≡ c .clock)
+  pub acted-still : (w : Written) (v : ℕ) (c : Core) → (clocksIn (actedOn m w v c) ≡ 0) × (coreAfter m (actedOn m w v c) c .clock ≡ c .clock)
   unfolding clocksIn clocksOf coreAfter inCore
   acted-still written.Extender v c = (refl, refl)
   acted-still written.AySelect v c = (refl, refl)
@@ -186,7 +186,7 @@ module _ (m : ZXMachine) where
   acted-still written.Nothing v c = (refl, refl)
 
   -- the final step
-  final-clock : (c : Core) → clocksIn (finalStep c) ≡ 1
+  pub final-clock : (c : Core) → clocksIn (finalStep c) ≡ 1
   unfolding clocksIn clocksOf
   final-clock c = omega arith
 

@@ -15,10 +15,10 @@ use Rattle.machine.proofs.Numbered.{regular}
 use Rattle.machine.proofs.Bounds.{position-small}
 use Rattle.machine.proofs.Rising.{blocks-mono, blocks-at-end}
 use Rattle.bus.specs.World.{World}
-use Rattle.bus.specs.Time.{Op, tick, colour, paged, poke, load, unpass, closes, caughtUp, inCore, inScreen, does}
+use Rattle.bus.specs.Time.{Op, tick, colour, paged, poke, load, unpass, closes, caughtUp, inCore, inScreen, does, worldAfter}
 use Rattle.bus.specs.Turns.{clocksOf, blocksOf, closedBy, Turn, fresh, Part, ranBy}
 use Rattle.bus.proofs.OneStep.{frame-long, closes-at, goes-on-at, core-closed, core-goes, screen-closed, screen-goes}
-use Rattle.bus.proofs.Runs.{clocksIn, blocksIn, closedIn, worldAfter, ran-is, fresh-clocks}
+use Rattle.bus.proofs.Runs.{clocksIn, blocksIn, closedIn, ran-is, fresh-clocks}
 use Rattle.bus.proofs.TimedCalls.{InCall, AllInCall, Timed}
 use Rattle.bus.proofs.Kept.{SoundWorld}
 

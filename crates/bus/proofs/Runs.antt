@@ -7,7 +7,7 @@ use Prim.Native.Nat.{ℕ, _+_}
 use native.Mathlib.Nat.{add-assoc, add-zero, zero-add}
 use Rattle.machine.specs.declared.ZXMachine.{ZXMachine}
 use Rattle.bus.specs.World.{Core, World}
-use Rattle.bus.specs.Time.{Op, inCore, does}
+use Rattle.bus.specs.Time.{Op, inCore, does, worldAfter}
 use Rattle.bus.specs.Turns.{clocksOf, blocksOf, closedBy, Turn, turned, ran, coreAfter, fresh, Part, andThen, ranBy}
 
 -- ---- a run taken apart
@@ -52,7 +52,7 @@ ran-then m f g t e =
 
 -- ---- what a run reports
 
--- the clocks of some operations, the blocks that they paint, whether one of them closes a frame, and the world behind them
+-- the clocks of some operations, the blocks that they paint, and whether one of them closes a frame
 unfoldable pub clocksIn : List Op → ℕ
 clocksIn [] = 0
 clocksIn (o ∷ os) = clocksOf o + clocksIn os
@@ -64,10 +64,6 @@ blocksIn m (o ∷ os) w = blocksOf m o w + blocksIn m os (does m o w)
 unfoldable pub closedIn : ZXMachine → List Op → Core → Bool
 closedIn m [] c = false
 closedIn m (o ∷ os) c = closedBy m o c || closedIn m os (inCore m o c)
-
-unfoldable pub worldAfter : ZXMachine → List Op → World → World
-worldAfter m [] w = w
-worldAfter m (o ∷ os) w = worldAfter m os (does m o w)
 
 or-assoc : (a b c : Bool) → (a || b) || c ≡ a || (b || c)
 or-assoc true b c = refl

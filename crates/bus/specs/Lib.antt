@@ -2,3 +2,5 @@ pub mod World
 pub mod Time
 pub mod Turns
 pub mod Calls
+pub mod Pokes
+pub mod Pages

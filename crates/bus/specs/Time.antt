@@ -2,7 +2,7 @@
 -- Assumes nothing.
 use Prim.Native.Nat.{ℕ, _+_, _-_, _*_, _%_}
 use mathlib.Core.Bool.{Bool, true, false, cond, _&&_}
-use mathlib.Core.List.{List}
+use mathlib.Core.List.{List, [], _∷_}
 use lib.Dec.{leb, eqb}
 use lib.ListN.{set}
 use Rattle.machine.specs.declared.ZXMachine.{ZXMachine}
@@ -31,8 +31,8 @@ lookAt m clock c =
     record { at = blockPosition (specsOf m) clock; ram = c .ram; page = shownPage m (c .paging); flash = flashOn (c .phase) }
 
 -- "Catch-up paints, in raster order, every block from the painted count up to the position"
-abbrev pub painted : Look → ℕ → List ℕ → List ℕ
-painted l from picture = paint (ramPage (l .page) (l .ram)) (l .flash) from (l .at - from) picture
+abbrev pub paintFrom : Look → ℕ → List ℕ → List ℕ
+paintFrom l from picture = paint (ramPage (l .page) (l .ram)) (l .flash) from (l .at - from) picture
 
 -- "A is shown in even phases, B in odd."
 abbrev pub showsA : ℕ → Bool
@@ -49,8 +49,8 @@ unfoldable pub caughtUp : Look → Bool → Screen → Screen
 caughtUp l shows-a s =
     record {
       painted = l .at;
-      a = cond shows-a (s .a) (painted l (s .painted) (s .a));
-      b = cond shows-a (painted l (s .painted) (s .b)) (s .b);
+      a = cond shows-a (s .a) (paintFrom l (s .painted) (s .a));
+      b = cond shows-a (paintFrom l (s .painted) (s .b)) (s .b);
     }
 
 -- the operations that calls are made of: a step of n clocks, a border write of a colour, a 7FFD write that is taken, a byte of RAM,
@@ -130,3 +130,8 @@ does m o w =
       screen = inScreen m o (w .core) (w .screen);
       edge = inEdge m o (w .core) (w .edge);
     }
+
+-- the world after operations, one after the other
+unfoldable pub worldAfter : ZXMachine → List Op → World → World
+worldAfter m [] w = w
+worldAfter m (o ∷ os) w = worldAfter m os (does m o w)

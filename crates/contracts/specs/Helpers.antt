@@ -16,7 +16,7 @@ use Rattle.answers.specs.Judges.{numberFits}
 use Rattle.answers.specs.Answers.{numberAnswer, refusedAnswer}
 use Rattle.contracts.specs.Plain.{Told, told}
 
--- "other lengths", then 8: "a helper's number outside its range"
+-- 01's number and values for each case of a helper's answer. "other lengths", then 8: "a helper's number outside its range"
 abbrev pub help : Helped → List ℕ → Told
 help (helped.Number n) answer = told 0 (numberAnswer n)
 help helped.OutOfRange answer = told (refusalNumber BadNumber) (refusedAnswer 5 (refusalNumber BadNumber) answer)

@@ -11,12 +11,11 @@ use Rattle.machine.specs.declared.ZXMachine.{ZXMachine}
 use Rattle.machine.specs.Numbers.{specsOf}
 use Rattle.record.specs.Record.{flagByte}
 use Rattle.bus.specs.World.{Core, World}
-use Rattle.bus.specs.Time.{Op, tick, colour, paged, poke, load, unpass, closes, inCore, does}
+use Rattle.bus.specs.Time.{Op, tick, colour, paged, poke, load, unpass, closes, inCore, does, worldAfter}
 use Rattle.bus.specs.Turns.{clocksOf, closedBy}
 use Rattle.bus.proofs.OneStep.{frame-long, closes-at, core-closed, core-goes}
 use Rattle.bus.proofs.Runs.{clocksIn, closedIn}
 use Rattle.bus.proofs.Runs as runs
-use Rattle.history.specs.Demand.{worldAfter}
 use Rattle.history.proofs.Time.{Small, count}
 use Rattle.history.proofs.Operations.{AllSmall, closings}
 

@@ -13,12 +13,11 @@ use Rattle.machine.proofs.Numbered.{regular}
 use Rattle.machine.proofs.Rising.{blocks-mono, blocks-at-end}
 use Rattle.border.specs.Edge.{finished}
 use Rattle.bus.specs.World.{Core, World, clearPicture, clearBorder, started}
-use Rattle.bus.specs.Time.{Op, tick, colour, paged, poke, load, unpass, lookAt, closes, inCore, inEdge, does}
+use Rattle.bus.specs.Time.{Op, tick, colour, paged, poke, load, unpass, lookAt, closes, inCore, inEdge, does, worldAfter}
 use Rattle.bus.specs.Turns.{clocksOf, blocksOf, closedBy}
 use Rattle.bus.proofs.OneStep.{closes-at, edge-closed}
 use Rattle.bus.proofs.Runs.{clocksIn, blocksIn}
 use Rattle.history.specs.Log.{Log, Frame, Still, noted, follow, looked, stillOf, filmed, film, blank, drawn, Shows, AllShow, Chained}
-use Rattle.history.specs.Demand.{worldAfter}
 use Rattle.history.proofs.Time.{Small, Timed, timed, count, log-closed, log-goes}
 use Rattle.history.proofs.Pictures.{Painted, painted-kept}
 use Rattle.history.proofs.Borders.{Bordered, bordered}

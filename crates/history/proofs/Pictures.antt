@@ -19,7 +19,7 @@ use Rattle.machine.proofs.Rising.{blocks-mono, blocks-at-end}
 use Rattle.paint.proofs.Painting.{paint-splice, length-blocks}
 use Rattle.memory.specs.Memory.{ramPage}
 use Rattle.bus.specs.World.{Core, Screen, World}
-use Rattle.bus.specs.Time.{Op, tick, colour, paged, poke, load, unpass, Look, lookAt, painted, showsA, shownPicture, hiddenPicture, caughtUp, closes, wrapped, inCore, rewound, inScreen}
+use Rattle.bus.specs.Time.{Op, tick, colour, paged, poke, load, unpass, Look, lookAt, paintFrom, showsA, shownPicture, hiddenPicture, caughtUp, closes, wrapped, inCore, rewound, inScreen}
 use Rattle.bus.specs.Turns.{blocksOf}
 use Rattle.bus.proofs.OneStep.{closes-at, goes-on-at, core-closed, core-goes, screen-closed, screen-goes}
 use Rattle.history.specs.Log.{Log, noted, drawn, drawnBy, lastAt, newest, older, Rising}
@@ -27,7 +27,7 @@ use Rattle.history.proofs.Time.{log-closed, log-goes}
 
 -- painting behind what is drawn already: it grows, and the rest stays
 pub paint-on : (e : Look) (p : ℕ) (front old : List ℕ) → length front ≡ 8 * p → p ≤ e .at → 8 * e .at ≤ length old
-    → painted e p (front ++ drop (8 * p) old) ≡ (front ++ drawnBy e p) ++ drop (8 * e .at) old
+    → paintFrom e p (front ++ drop (8 * p) old) ≡ (front ++ drawnBy e p) ++ drop (8 * e .at) old
 paint-on e p front old size h room =
     let far : 8 * e .at ≡ length front + (8 * e .at - 8 * p) = omega arith in
     let near : 8 * p + (8 * e .at - 8 * p) ≡ 8 * e .at = omega arith in
@@ -42,7 +42,7 @@ paint-on e p front old size h room =
     ∙ rw (to, take-at front (drop (8 * p) old) (8 * p) size, rest) (sym (append-assoc front (drawnBy e p) (drop (8 * e .at) old)))
 
 -- a catch-up paints the hidden picture and leaves the shown one
-pub hidden-caught : (t : Bool) (e : Look) (s : Screen) → cond t (caughtUp e t s .b) (caughtUp e t s .a) ≡ painted e (s .painted) (cond t (s .b) (s .a))
+pub hidden-caught : (t : Bool) (e : Look) (s : Screen) → cond t (caughtUp e t s .b) (caughtUp e t s .a) ≡ paintFrom e (s .painted) (cond t (s .b) (s .a))
 unfolding caughtUp
 hidden-caught true e s = refl
 hidden-caught false e s = refl
@@ -97,7 +97,7 @@ module _ (m : ZXMachine) (e : Look) (B : ℕ) (c : Core) (s : Screen) (l : Log) 
   hidden-next : hiddenPicture c (caughtUp e (showsA (c .phase)) s) ≡ drawn (e ∷ l .current .looks) ++ drop (8 * e .at) (older (l .done))
   hidden-next =
       hidden-caught (showsA (c .phase)) e s
-      ∙ ap (painted e (s .painted)) (p .hidden-is)
+      ∙ ap (paintFrom e (s .painted)) (p .hidden-is)
       ∙ paint-on e (s .painted) (drawn (l .current .looks)) (older (l .done)) (p .size) later (omega (arith, p .older-size))
       ∙ ap (λ (x : List ℕ). x ++ drop (8 * e .at) (older (l .done))) (sym drawn-next)
 

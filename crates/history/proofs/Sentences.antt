@@ -21,14 +21,14 @@ use Rattle.record.proofs.Round.{held-encode}
 use Rattle.paint.proofs.Painting.{paint-out}
 use Rattle.memory.specs.Memory.{ramPage}
 use Rattle.bus.specs.World.{World, busOf, started}
-use Rattle.bus.specs.Time.{Op, tick, colour, paged, poke, load, unpass, Look, lookAt, painted, showsA, shownPicture, hiddenPicture, caughtUp, closes, inCore, inScreen, does}
+use Rattle.bus.specs.Time.{Op, tick, colour, paged, poke, load, unpass, Look, lookAt, paintFrom, showsA, shownPicture, hiddenPicture, caughtUp, closes, inCore, inScreen, does, worldAfter}
 use Rattle.bus.specs.Turns.{closedBy}
 use Rattle.bus.proofs.OneStep.{core-goes, screen-closed, screen-goes, closes-at}
 use Rattle.bus.proofs.Closing.{completed, closing-shows}
 use Rattle.contracts.specs.Timed.{Lent, lentBy}
 use Rattle.history.specs.Log.{Still, Frame, Shows, AllShow, lastAt, Rising, reaching, blockBy, colourAt}
 use Rattle.history.specs.Calls.{Lens, plain, Call, called, reportedClosed, Typed, AllTyped, EachCall, NoStart, NoSecondStart}
-use Rattle.history.specs.Demand.{worldAfter, callOps, history, bytesAfter}
+use Rattle.history.specs.Demand.{callOps, history, bytesAfter}
 use Rattle.history.proofs.Time.{count}
 use Rattle.history.proofs.Pictures.{hidden-caught, shown-caught}
 use Rattle.history.proofs.Drawn.{shows-block}

@@ -31,7 +31,7 @@ use Rattle.memory.specs.Memory.{placeOf, pokedIn, poked, loaded}
 use Rattle.memory.proofs.Places.{exists-fits}
 use Rattle.ports.specs.Devices.{devicesOf}
 use Rattle.bus.specs.World.{Core, World, busOf}
-use Rattle.bus.specs.Time.{Op, paged, poke, load, unpass, inCore, inScreen, inEdge}
+use Rattle.bus.specs.Time.{Op, paged, poke, load, unpass, inCore, inScreen, inEdge, worldAfter}
 use Rattle.bus.specs.Turns.{clocksOf, blocksOf, closedBy, Turn, Part, ran, fresh}
 use Rattle.bus.specs.Calls.{plainWait, addressWait, portRead, readValue, portWrite, writeCode, repaged, pagingWrite}
 use Rattle.bus.proofs.Runs.{clocksIn, blocksIn, closedIn, ran-is, ran-world, fresh-blocks}
@@ -48,7 +48,8 @@ use Rattle.answers.specs.Answers.{timedAnswer}
 use Rattle.contracts.specs.Timed.{Lent, lentBy, Outcome, timed, timedEnd, noValue, Started, start, waitInternal, waitAt, readIo, writeIo}
 use Rattle.contracts.specs.Plain.{codeOf, change, repage, withPaging, withPassed, writeInternal, write7ffdCall, resetFrames, loadPage}
 use Rattle.history.specs.Calls.{Lens, lentOf, handedBack, Kind, startAgain, plain, mreq, noMreq, portIn, portOut, readByte, writeByte, writePaging, readPaging, askInterrupt, askFrames, resetPassed, loadRam, askPage, askBlock, askShown, still, helpLineAddr, helpLine, helpColumn, helpAttrRow, helpAttrColumn, helpColor, Left, ofOutcome, withRam, withState, performed, called, reportedClocks, reportedBlocks, reportedClosed, Typed, NoStart, PortTakes}
-use Rattle.history.specs.Demand.{pokeAt, opsOf, worldAfter, blind, callOps}
+use Rattle.bus.specs.Pokes.{poking}
+use Rattle.history.specs.Demand.{opsOf, blind, callOps}
 use Rattle.history.proofs.Operations.{closings, AllSmall}
 use Rattle.history.proofs.Whole.{Sized, untouched, ram-changed, state-changed, nothing-behind, front-whole, LentWhole, lent-whole, handed-whole}
 use Rattle.history.proofs.Judging.{sizesOf, startLengths, lentFits, waitCauses, portCauses, toldCauses, writeCauses, loadCauses, noCauses, wayOf, verdictBy, code-is, Accepting, accepting, none-holds, same-code}
@@ -285,7 +286,7 @@ module _ (m : ZXMachine) (w : World) (sound : SoundWorld m w) (sized : Sized m w
           brief = omega arith;
         }
 
-    quiet-poke : (p : Place) (value : ℕ) → Quiet (pokeAt p value)
+    quiet-poke : (p : Place) (value : ℕ) → Quiet (poking p value)
     unfolding clocksIn blocksIn closings clocksOf blocksOf closedBy
     quiet-poke (place.Rom at) value = quiet-none
     quiet-poke (place.Ram at) value = record { kept = one-kept (poke at value) tt tt refl; clocks = refl; blocks = refl; closed = refl }
@@ -326,7 +327,7 @@ module _ (m : ZXMachine) (w : World) (sound : SoundWorld m w) (sized : Sized m w
     asking-tied k t e = still-tied k [] t quiet-none (ap (handedBack n l) e ∙ untouched n l)
 
     -- a byte write
-    poke-world : (p : Place) (value : ℕ) → withRam l (pokedIn p (w .core .ram) value) ≡ lentBy m (worldAfter m (pokeAt p value) w)
+    poke-world : (p : Place) (value : ℕ) → withRam l (pokedIn p (w .core .ram) value) ≡ lentBy m (worldAfter m (poking p value) w)
     unfolding worldAfter inCore inScreen inEdge
     poke-world (place.Rom at) value = refl
     poke-world (place.Ram at) value = refl
@@ -339,13 +340,13 @@ module _ (m : ZXMachine) (w : World) (sound : SoundWorld m w) (sized : Sized m w
         (a .verdict, eqb-true _ (specsOf m .ram) (not-false _ (first .0)) ∙ sym (sized .ram))
 
     write-tied : (addr value : ℕ) → codeOf (verdictBy writeCauses (lentOf n l)) ≡ 0
-        → Tied m (called (record { lens = n; kind = writeByte addr value }) l) (pokeAt (placeOf m (w .core .paging) addr) value) w
+        → Tied m (called (record { lens = n; kind = writeByte addr value }) l) (poking (placeOf m (w .core .paging) addr) value) w
     unfolding performed writeInternal judgeWrite
     write-tied addr value e =
         let a = write-judged e in
         let p = placeOf m (w .core .paging) addr in
         let new : Bus → List ℕ = λ bus. poked (bus .machine) (bus .paging) (take (n .ram) (w .core .ram)) addr value in
-        still-tied (writeByte addr value) (pokeAt p value) refl (quiet-poke p value)
+        still-tied (writeByte addr value) (poking p value) refl (quiet-poke p value)
         (ap (λ (v : Verdict). handedBack n l (withRam (lentOf n l) (change new (take (n .ram) (w .core .ram)) v .slice))) (a .0)
         ∙ ram-changed n l (pokedIn p (take (n .ram) (w .core .ram)) value) (nothing-behind (n .ram) (w .core .ram) (a .1))
         ∙ ap (λ (xs : List ℕ). withRam l (pokedIn p xs value)) (front-whole (n .ram) (w .core .ram) (a .1))

@@ -11,19 +11,12 @@ use Rattle.machine.specs.Numbers.{specsOf}
 use Rattle.border.specs.Edge.{Edge}
 use Rattle.ports.specs.Devices.{devicesOf}
 use Rattle.bus.specs.World.{Core, World, clearPicture, clearBorder, started}
-use Rattle.bus.specs.Time.{Op, colour, poke, load, unpass, shownPicture, hiddenPicture, does}
+use Rattle.bus.specs.Time.{Op, colour, shownPicture, hiddenPicture, worldAfter}
+use Rattle.bus.specs.Pokes.{byteWrite, pageLoad, passedReset}
 use Rattle.bus.specs.Calls.{plainWait, addressWait, portRead, portWrite, pagingWrite}
-use Rattle.memory.specs.declared.Place.{Place}
-use Rattle.memory.specs.declared.Place.the-variants as place
-use Rattle.memory.specs.Memory.{placeOf}
 use Rattle.contracts.specs.Timed.{lentBy}
 use Rattle.history.specs.Log.{Log, Still, follow, film, blank, lastAt, drawn, colourAt, newest, older, borderOf, AllShow, Chained}
 use Rattle.history.specs.Calls.{Kind, startAgain, plain, mreq, noMreq, portIn, portOut, readByte, writeByte, writePaging, readPaging, askInterrupt, askFrames, resetPassed, loadRam, askPage, askBlock, askShown, still, helpLineAddr, helpLine, helpColumn, helpAttrRow, helpAttrColumn, helpColor, Call, called, EachCall, PortTakes, Sums, summed}
-
--- a byte write, by where the address lies: "ROM writes vanish"
-abbrev pub pokeAt : Place → ℕ → List Op
-pokeAt (place.Rom at) value = []
-pokeAt (place.Ram at) value = poke at value ∷ []
 
 -- the operations of an accepted call, which the core decides; of a second start there is no history
 unfoldable pub opsOf : ZXMachine → Kind → Core → List Op
@@ -33,10 +26,10 @@ opsOf m (mreq addr n answer) c = addressWait m addr n c
 opsOf m (noMreq addr n answer) c = addressWait m addr n c
 opsOf m (portIn devices port answer) c = portRead m port c
 opsOf m (portOut devices port value answer) c = portWrite m (devicesOf devices) port value c
-opsOf m (writeByte addr value) c = pokeAt (placeOf m (c .paging) addr) value
+opsOf m (writeByte addr value) c = byteWrite m addr value c
 opsOf m (writePaging value answer) c = pagingWrite m value c
-opsOf m resetPassed c = unpass ∷ []
-opsOf m (loadRam bytes page) c = load page bytes ∷ []
+opsOf m resetPassed c = passedReset c
+opsOf m (loadRam bytes page) c = pageLoad page bytes c
 opsOf m (readByte rom addr answer) c = []
 opsOf m (readPaging answer) c = []
 opsOf m (askInterrupt answer) c = []
@@ -51,11 +44,6 @@ opsOf m (helpColumn n answer) c = []
 opsOf m (helpAttrRow n answer) c = []
 opsOf m (helpAttrColumn n answer) c = []
 opsOf m (helpColor n answer) c = []
-
--- the world after operations
-unfoldable pub worldAfter : ZXMachine → List Op → World → World
-worldAfter m [] w = w
-worldAfter m (o ∷ os) w = worldAfter m os (does m o w)
 
 -- a core with a screen and an edge that say nothing
 abbrev pub blind : Core → World

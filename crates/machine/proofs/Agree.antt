@@ -7,7 +7,7 @@ use Prim.Native.Nat.{ℕ, zero, suc, _+_, _-_, _*_, _/_, _%_, _<_, _≤_}
 use native.Mathlib.Nat.{mod-eq-of-lt, mod-eq-sub-mod, div-eq-of-lt, div-eq-sub-div, div-lt-iff-lt-mul, suc-mul, mul-add}
 use native.Mathlib.Numerals.{add-one, one-add}
 use native.Mathlib.Omega.{arith}
-use borrow.Author.Tests.{lt-ltb, le-ltb, le-leb, lt-leb}
+use borrow.Author.Tests.{lt-ltb, le-ltb, le-leb, lt-leb, eq-eqb, ne-eqb}
 use lib.Dec.{ltb, leb, lit≤}
 use lib.ListN.{getD}
 use Rattle.laws.proofs.Cases.{split}
@@ -18,7 +18,7 @@ use Rattle.machine.specs.declared.BorderPlace.the-variants.{At, FrameEnd
 use Rattle.machine.specs.declared.ZXSpecs.{ZXSpecs}
 use Rattle.machine.specs.Numbers.{specsOf}
 use Rattle.machine.specs.Timing.{pattern, held, delay, blocksIn, blocksFrom, blocksAt, blockPosition, borderIn, borderFrom, borderAt, borderPosition, interrupt}
-use Rattle.machine.specs.Pages.{Page, pageOf, laps, patterns, scan, ticks, passed, pageDelay, pageBlocks, windowStart, pagePairs, readShift}
+use Rattle.machine.specs.Pages.{Page, pageOf, laps, patterns, scan, lasts, interrupt48K, ticks, passed, pageDelay, pageBlocks, windowStart, pagePairs, readShift}
 
 -- what the two sets of numbers of one machine have to do with each other
 pub record Same (p : Page) (s : ZXSpecs) : Type 0 where
@@ -200,6 +200,20 @@ pairs-are s t w =
     split (s .border) t
     (λ h. ap (λ (x : ℕ). 2 * x) (passed-is 240 160 1 (s .line) (s .border) t (omega arith) (omega arith) (omega arith) h) ∙ sym (border-pos s t h))
     (λ h. ap (λ (x : ℕ). 2 * x) (passed-before 240 160 1 (s .line) (s .border) t h) ∙ simp (lt-ltb t (s .border) h))
+
+-- ---- the interrupt
+lasts-is : (n start t : ℕ) → start ≤ t → lasts n start t ≡ ltb t (start + n)
+unfolding lasts
+lasts-is zero start t h = sym (le-ltb t (start + 0) (omega arith))
+lasts-is (suc n) start t h =
+    split (start + 1) t
+    (λ k. let e : start + 1 + n ≡ start + suc n = omega arith in
+    rw (ne-eqb t start (λ q. omega arith)) (lasts-is n (start + 1) t k ∙ ap (λ (x : ℕ). ltb t x) e))
+    (λ k. rw (eq-eqb t start (omega arith)) (sym (lt-ltb t (start + suc n) (omega arith))))
+
+-- The 48K page's interrupt is document 01's at every T-state. Document 01 has the same 32 clocks on 128K, for which no page states any.
+pub agree-interrupt-48K : (t : ℕ) → interrupt48K t ≡ interrupt t
+agree-interrupt-48K t = lasts-is 32 0 t (omega arith)
 
 -- ---- the theorems, over any machine whose two sets of numbers go together, at every clock
 module _ (p : Page) (s : ZXSpecs) (e : Same p s) (t : ℕ) where

@@ -2,9 +2,9 @@
 -- Numbers that no page states, because they are the handheld's window or a shift of the Rust's, stand apart at the end and say so.
 -- Assumes nothing.
 use Prim.Native.Nat.{ℕ, zero, suc, _+_, _-_, _*_}
-use mathlib.Core.Bool.{Bool, cond}
+use mathlib.Core.Bool.{Bool, false, cond, _||_}
 use mathlib.Core.List.{List, [], _∷_}
-use lib.Dec.{ltb, leb}
+use lib.Dec.{ltb, leb, eqb}
 use lib.ListN.{getD}
 use Rattle.machine.specs.declared.ZXMachine.{ZXMachine}
 use Rattle.machine.specs.declared.ZXMachine.the-variants.{Sinclair48K, Sinclair128K}
@@ -44,6 +44,16 @@ scan (suc k) start perLine t =
 
 abbrev pub pageDelay : Page → ℕ → ℕ
 pageDelay p t = scan 192 (p .firstHeld) (p .perLine) t
+
+-- t is one of the n T-states from `start` on
+unfoldable pub lasts : ℕ → ℕ → ℕ → Bool
+lasts zero start t = false
+lasts (suc n) start t = eqb t start || lasts n (start + 1) t
+
+-- 48K: "Time starts at the interrupt, which lasts 32 T-states." The 128K page as we know it states no length, and none is made up for it
+-- here: libspectrum has 36, which is no page's word.
+abbrev pub interrupt48K : ℕ → Bool
+interrupt48K t = lasts 32 0 t
 
 -- how many of the n moments start, start + step, start + 2 step, … have come at T-state t
 unfoldable pub ticks : ℕ → ℕ → ℕ → ℕ → ℕ

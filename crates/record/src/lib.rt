@@ -15,7 +15,7 @@ pub struct Bus {
     pub machine: ZXMachine,
     // Clocks since the frame began.
     pub clock: u32,
-    // Frames completed.
+    // Frames completed since the start or the last reset.
     pub passed: u32,
     // Frames completed modulo 32, which times the flash and picks the hidden picture.
     pub phase: u8,

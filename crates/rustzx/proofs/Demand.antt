@@ -24,11 +24,11 @@ use Rattle.memory.specs.Paging.{bitSet, pageAt, pageExists}
 use Rattle.memory.specs.Memory.{placeOf, Holds, ramPage, pagePart}
 use Rattle.memory.proofs.Places.{map-holds}
 use Rattle.bus.specs.World.{World, started}
-use Rattle.bus.specs.Time.{Op, paged, poke, load, unpass, does}
+use Rattle.bus.specs.Time.{Op, paged, poke, load, unpass, does, worldAfter}
 use Rattle.bus.specs.Turns.{clocksOf, Part, fresh, ranBy}
 use Rattle.bus.specs.Calls.{plainWait, addressWait, portRead, repaged, pagingWrite, portWrite}
 use Rattle.bus.proofs.OneStep.{frame-long}
-use Rattle.bus.proofs.Runs.{worldAfter, ran-world}
+use Rattle.bus.proofs.Runs.{ran-world}
 use Rattle.bus.proofs.Kept.{SoundWorld, InRange, started-sound, op-kept, call-kept}
 use Rattle.bus.proofs.Reports.{call-moved}
 use Rattle.bus.proofs.TimedCalls.{Timed, plain-timed, address-timed, read-timed, write-timed}
@@ -38,7 +38,7 @@ use Rattle.rustzx.specs.Memory.{ZXMemory, read, ramPageData, pageData, b
 use Rattle.rustzx.specs.Controller as rust
 use Rattle.rustzx.specs.Controller.{ZXController, new, withRom}
 use Rattle.rustzx.specs.Related.{memoryOf, Related}
-use Rattle.rustzx.specs.Pokes.{poking, byteWrite, pageLoad, passedReset}
+use Rattle.bus.specs.Pokes.{poking, byteWrite, pageLoad, passedReset}
 use Rattle.rustzx.specs.Calls.{Call, waitInternal, waitMreq, waitNoMreq, readIo, writeIo, readInternal, writeInternal, write7ffd, read7ffd, intActive, framesCount, resetFrameCounter, loadPage, ramPageOf, blockOf, screenBuffer, borderBuffer, Given, gives, acted, told, performed, partOf, answerOf, after, Accepted, Seen, allPerformed, allAnswers, afterAll, AllAccepted, TimedByRust}
 use Rattle.rustzx.proofs.Timing.{frame-is, interrupt-is}
 use Rattle.rustzx.proofs.Pages.{read-is, bank-type-is, page-data-is}

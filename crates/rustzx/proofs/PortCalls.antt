@@ -22,10 +22,10 @@ use Rattle.ports.specs.declared.Written.{Written}
 use Rattle.ports.specs.declared.Written.the-variants as written
 use Rattle.ports.specs.Order.{readOrder, classC000, class8000, evenPort, pagingPort, claims, has7ffd, portOrder, writeOrder}
 use Rattle.bus.specs.World.{Core, World}
-use Rattle.bus.specs.Time.{Op, colour, does}
+use Rattle.bus.specs.Time.{Op, colour, does, worldAfter}
 use Rattle.bus.specs.Turns.{Part, andThen, coreAfter}
 use Rattle.bus.specs.Calls.{contended, plainWait, delayed, addressWait, firstPart, heldStep, lastPart, finalStep, readBefore, portRead, answered, readValue, actedOn, portWrite}
-use Rattle.bus.proofs.Runs.{worldAfter, world-core}
+use Rattle.bus.proofs.Runs.{world-core}
 use Rattle.rustzx.specs.Panics as run
 use Rattle.rustzx.specs.Panics.{Run, done, Ends}
 use Rattle.rustzx.specs.Machine.{contentionClocks, portIsContended}

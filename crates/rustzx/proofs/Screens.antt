@@ -27,7 +27,7 @@ use Rattle.paint.proofs.Painting.{paint-none}
 use Rattle.memory.specs.Paging.{bitSet, shownPage}
 use Rattle.memory.specs.Memory.{ramPage}
 use Rattle.bus.specs.World.{Core, Screen}
-use Rattle.bus.specs.Time.{Look, flashOn, lookAt, painted, showsA, hiddenPicture, caughtUp, rewound}
+use Rattle.bus.specs.Time.{Look, flashOn, lookAt, paintFrom, showsA, hiddenPicture, caughtUp, rewound}
 use Rattle.rustzx.specs.Panics.{each}
 use Rattle.rustzx.specs.Screen.{BlocksCount, fromClocks, passedFrom, ScreenBank, ZXScreen, pixelState, attrOf, activeBankOf, drawPixel, drawBlock, blockIndex, rendered, processClocks, newFrame}
 use Rattle.rustzx.specs.Related.{Mirrors, Mirrored, activeOf, SameScreen}
@@ -105,7 +105,7 @@ unfolding caughtUp
 shown-kept l true w = refl
 shown-kept l false w = refl
 
-hidden-painted : (l : Look) (t : Bool) (w : Screen) → cond t (caughtUp l t w .b) (caughtUp l t w .a) ≡ painted l (w .painted) (cond t (w .b) (w .a))
+hidden-painted : (l : Look) (t : Bool) (w : Screen) → cond t (caughtUp l t w .b) (caughtUp l t w .a) ≡ paintFrom l (w .painted) (cond t (w .b) (w .a))
 unfolding caughtUp
 hidden-painted l true w = refl
 hidden-painted l false w = refl
@@ -136,7 +136,7 @@ module _ (m : ZXMachine) (clk : ℕ) where
     look = lookAt m clk c
 
     drawn-is : (from to : ℕ) (flash : Bool) (q p : List ℕ) → from ≡ w .painted → to ≡ look .at → flash ≡ look .flash → q ≡ p
-        → each from (to - from) (drawBlock (activeBankOf s) flash) q ≡ painted look (w .painted) p
+        → each from (to - from) (drawBlock (activeBankOf s) flash) q ≡ paintFrom look (w .painted) p
     drawn-is from to flash q p e f g i =
         rw (e, f, g, i)
         (draws (activeBankOf s) (ramPage (look .page) (look .ram)) (look .flash) (active-mirrors m s (c .paging) (c .ram) (r .active) (r .mirrored))

@@ -23,15 +23,14 @@ use Rattle.memory.specs.Memory.{placeIn, placeOf, poked, ramPage, loaded}
 use Rattle.memory.proofs.Places.{map-holds, exists-fits}
 use Rattle.memory.proofs.Stored.{length-loaded}
 use Rattle.bus.specs.World.{Core, Screen, World}
-use Rattle.bus.specs.Time.{paged, poke, load, inCore, inScreen, inEdge, does}
+use Rattle.bus.specs.Time.{paged, poke, load, inCore, inScreen, inEdge, does, worldAfter}
 use Rattle.bus.specs.Calls.{repaged, pagingWrite}
-use Rattle.bus.proofs.Runs.{worldAfter}
 use Rattle.rustzx.specs.Panics.{Run, done, andThen, each, Ends}
 use Rattle.rustzx.specs.Memory.{ZXMemory, getPage, write, loadPage}
 use Rattle.rustzx.specs.Screen.{ScreenBank, ZXScreen, LocalBank, some, none, localBank, withActive, switchTo, switchBank, withBank, updateIn, update}
 use Rattle.rustzx.specs.Controller.{ZXController, withMemory, withPaging, newScreenBank, remapped, stillEnabled, write7ffd, updated, writeInternal, refreshByte, refreshPage, refreshed, loadAndRefresh}
 use Rattle.rustzx.specs.Related.{Mirrors, Mirrored, activeOf, SameScreen, memoryOf, Related}
-use Rattle.rustzx.specs.Pokes.{poking, byteWrite}
+use Rattle.bus.specs.Pokes.{poking, byteWrite}
 use Rattle.rustzx.proofs.Loops.{each-last}
 use Rattle.rustzx.proofs.Screens.{banks-screen}
 use Rattle.rustzx.proofs.Pages.{write-is, remap-is, page-data-is, load-is}

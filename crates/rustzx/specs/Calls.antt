@@ -22,7 +22,7 @@ use Rattle.rustzx.specs.Memory.{ramPageData, blockData}
 use Rattle.rustzx.specs.Screen.{blockIndex}
 use Rattle.rustzx.specs.Controller as rust
 use Rattle.rustzx.specs.Controller.{ZXController}
-use Rattle.rustzx.specs.Pokes.{byteWrite, pageLoad, passedReset}
+use Rattle.bus.specs.Pokes.{byteWrite, pageLoad, passedReset}
 
 -- the calls, each by its name in the Rust, with its arguments; `shownPicture` and `border` are the two `frame_buffer`s
 pub data Call : Type 0 where

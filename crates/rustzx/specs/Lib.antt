@@ -7,5 +7,4 @@ pub mod Screen
 pub mod Border
 pub mod Controller
 pub mod Related
-pub mod Pokes
 pub mod Calls

@@ -2,3 +2,4 @@ pub mod RoundTrips
 pub mod Attributes
 pub mod OneBit
 pub mod Shown
+pub mod Pages

@@ -33,15 +33,6 @@ attributeRow addr = cond (isAttribute addr) (Number ((addr - 0x1800) / 32)) OutO
 abbrev pub attributeColumn : ℕ → Helped
 attributeColumn addr = cond (isAttribute addr) (Number ((addr - 0x1800) % 32)) OutOfRange
 
--- 01's numbers for each case of an answer: its refusal, 0 where there is none, and the number of the 5-byte answer
-abbrev pub helpedRefusal : Helped → ℕ
-helpedRefusal (Number n) = 0
-helpedRefusal OutOfRange = 8
-
-abbrev pub helpedNumber : Helped → ℕ
-helpedNumber (Number n) = n
-helpedNumber OutOfRange = 0
-
 -- where the attribute of raster block k stands in a page: after the bitmap, one for a column of 8 lines, which are 256 blocks
 abbrev pub attributeOffset : ℕ → ℕ
 attributeOffset k = 0x1800 + k / 256 * 32 + k % 32

@@ -36,15 +36,6 @@ colorNumber White = 7
 abbrev pub fromBits : ℕ → Colored
 fromBits n = cond (leb n 7) (Color (colorOf n)) OutOfRange
 
--- 01's numbers for each case of that answer: its refusal, 0 where there is none, and the number of the 5-byte answer
-abbrev pub coloredRefusal : Colored → ℕ
-coloredRefusal (Color c) = 0
-coloredRefusal OutOfRange = 8
-
-abbrev pub coloredNumber : Colored → ℕ
-coloredNumber (Color c) = colorNumber c
-coloredNumber OutOfRange = 0
-
 -- bit k of a number is 1
 abbrev pub bit : ℕ → ℕ → Bool
 bit k n = eqb (n / 2 ^ k % 2) 1

@@ -1,3 +1,4 @@
 pub mod Address
 pub mod Color
 pub mod Pixel
+pub mod Pages

@@ -7,7 +7,11 @@ use lib.ListN.{length}
 use borrow.Author.Tests.{eq-eqb}
 use Rattle.machine.specs.Numbers.{specsOf}
 use Rattle.record.specs.declared.Bus.{Bus}
+use Rattle.record.specs.declared.Held.the-variants as held
+use Rattle.record.specs.Record.{heldBy}
 use Rattle.record.specs.Sound.{Sound}
+use Rattle.record.proofs.Soundness.{sound-facts}
+use Rattle.record.proofs.Round.{held-sound}
 use Rattle.screen.specs.declared.Helped.{Helped}
 use Rattle.screen.specs.declared.Helped.the-variants as helped
 use Rattle.screen.specs.declared.Colored.{Colored}
@@ -23,7 +27,7 @@ use Rattle.rustzx.specs.Colors.{fromBits, colorByte}
 use Rattle.rustzx.specs.Related.{Related}
 use Rattle.rustzx.proofs.Helpers.{asRun, line-address-is, line-rel-is, col-rel-is, attr-row-is, attr-col-is, coloredRun, from-bits-is, color-byte-is}
 use Rattle.rustzx.proofs.EveryState.{rustOf, every-state}
-use Rattle.surface.specs.Same.{SameHelp}
+use Rattle.surface.specs.Same.{SameLent, SameHelp}
 
 helped-same : (h : Helped) (answer : List ℕ) → length answer ≡ 5 → SameHelp (asRun h) (helperCall h answer)
 unfolding helperCall
@@ -58,3 +62,9 @@ module _ (n : ℕ) (answer : List ℕ) (long : length answer ≡ 5) where
 pub some-state : (bus : Bus) (l : Lent) (rom : List ℕ) → Sound bus → length (l .ram) ≡ specsOf (bus .machine) .ram → length rom ≡ specsOf (bus .machine) .rom
     → Related (bus .machine) rom (rustOf (bus .machine) rom (lentWorld bus l)) (lentWorld bus l)
 some-state bus l rom s ram-long rom-long = every-state (bus .machine) rom (lentWorld bus l) s ram-long rom-long
+
+-- So are the slices themselves, lent as they should be: what is said of slices that hold the Rust's machine is said of all of these.
+pub some-lent : (bus : Bus) (l : Lent) (rom : List ℕ) → heldBy (l .state) ≡ held.Sound bus → length (l .ram) ≡ specsOf (bus .machine) .ram
+    → length rom ≡ specsOf (bus .machine) .rom → SameLent rom (rustOf (bus .machine) rom (lentWorld bus l)) l
+some-lent bus l rom h ram-long rom-long =
+    record { bus = bus; isHeld = h; related = some-state bus l rom (sound-facts bus (held-sound (l .state) bus h)) ram-long rom-long }

@@ -17,10 +17,11 @@ use Rattle.memory.specs.declared.Paged.the-variants as paging
 use Rattle.memory.specs.Paging.{write7ffd, pagedCode, pagingAfter}
 use Rattle.memory.specs.Memory.{placeOf, pokedIn, poked, byteAt, loaded}
 use Rattle.bus.specs.World.{World, worldOf}
-use Rattle.bus.specs.Time.{inCore, inScreen, inEdge}
+use Rattle.bus.specs.Time.{inCore, inScreen, inEdge, worldAfter}
 use Rattle.bus.specs.Turns.{fresh}
 use Rattle.bus.specs.Calls.{repaged, pagingWrite}
-use Rattle.bus.proofs.Runs.{worldAfter, ran-world}
+use Rattle.bus.proofs.Runs.{ran-world}
+use Rattle.bus.proofs.Kept.{SoundWorld}
 use Rattle.answers.specs.declared.Verdict.{Verdict}
 use Rattle.answers.specs.declared.Verdict.the-variants.{Accepted}
 use Rattle.answers.specs.Answers.{numberAnswer}
@@ -30,10 +31,10 @@ use Rattle.contracts.specs.Plain as ulb
 use Rattle.contracts.specs.Plain.{tell, withPaging, withPassed}
 use Rattle.rustzx.specs.Controller.{ZXController}
 use Rattle.rustzx.specs.Related.{Related}
-use Rattle.rustzx.specs.Pokes.{poking, byteWrite, pageLoad, passedReset}
+use Rattle.bus.specs.Pokes.{poking, byteWrite, pageLoad, passedReset}
 use Rattle.rustzx.specs.Calls as rust
 use Rattle.rustzx.specs.Calls.{Call, partOf, answerOf, after}
-use Rattle.rustzx.proofs.Demand.{call-agrees}
+use Rattle.rustzx.proofs.Demand.{call-agrees, kept}
 use Rattle.surface.specs.Same.{SameTold, SamePart, SameMove}
 
 module _ (bus : Bus) (ram a b border rom : List ℕ) (c : ZXController) (r : Related (bus .machine) rom c (worldOf bus ram a b border)) where
@@ -105,7 +106,12 @@ module _ (bus : Bus) (ram a b border rom : List ℕ) (c : ZXController) (r : Rel
   same-move : (k : Call) (w′ : World) → Sound bus → rust.Accepted m k w → after m k w ≡ w′ → SameMove m rom k c w′
   same-move k w′ sound ok same =
       let g = call-agrees m rom c w r k sound ok in
-      record { given = g .value; ends = g .ends; related = subst (Related m rom (g .value .controller)) same (g .holds .1) }
+      record {
+        given = g .value;
+        ends = g .ends;
+        related = subst (Related m rom (g .value .controller)) same (g .holds .1);
+        sound = subst (SoundWorld m) same (kept m w sound k ok);
+      }
 
   poked-is : (p : Place) (value : ℕ) → worldAfter m (poking p value) w ≡ worldOf bus (pokedIn p ram value) a b border
   unfolding worldAfter inCore inScreen inEdge

@@ -28,7 +28,7 @@ use Rattle.rustzx.specs.Controller.{ZXController}
 use Rattle.rustzx.specs.Related.{Related}
 use Rattle.rustzx.specs.Calls.{Call, waitInternal, waitMreq, waitNoMreq, readIo, writeIo, Given, partOf, answerOf}
 use Rattle.rustzx.specs.Calls as rust
-use Rattle.rustzx.proofs.Demand.{call-agrees, reports-agree}
+use Rattle.rustzx.proofs.Demand.{call-agrees, kept, reports-agree}
 use Rattle.surface.specs.Same.{NoValue, ItsValue, ItsCode, SameTimed}
 
 module _ (l : Lent) (bus : Bus) (rom : List ℕ) (c : ZXController) (r : Related (bus .machine) rom c (lentWorld bus l)) where
@@ -60,6 +60,7 @@ module _ (l : Lent) (bus : Bus) (rom : List ℕ) (c : ZXController) (r : Related
         int = interrupt (turn .world .core .clock);
         ends = g .ends;
         related = there;
+        sound = subst (λ (p : Part). SoundWorld m (ranBy p (fresh m w) .world)) same (kept m w sound k a);
         code = refl;
         slices = ap (λ (n : ZXMachine). lentBy n (turn .world)) (ran-machine (part m (w .core)) (fresh m w));
         answer = refl;

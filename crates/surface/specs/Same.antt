@@ -5,15 +5,34 @@ use Prim.Native.Nat.{ℕ}
 use mathlib.Core.Path.{_≡_}
 use mathlib.Core.Bool.{Bool}
 use mathlib.Core.List.{List, [], _∷_}
+use lib.ListN.{length, take, drop}
 use Rattle.machine.specs.declared.ZXMachine.{ZXMachine}
-use Rattle.bus.specs.World.{World}
+use Rattle.record.specs.declared.Bus.{Bus}
+use Rattle.record.specs.declared.Held.the-variants as held
+use Rattle.record.specs.Words.{longAt}
+use Rattle.record.specs.Record.{machineNumber, machineOf, heldBy}
+use Rattle.record.specs.Sound.{Sound}
+use Rattle.bus.specs.World.{World, busOf}
 use Rattle.answers.specs.Answers.{timedAnswer, numberAnswer}
-use Rattle.contracts.specs.Timed.{Outcome, lentBy}
+use Rattle.contracts.specs.Timed.{Lent, Outcome, lentBy, lentWorld, Started}
 use Rattle.contracts.specs.Plain.{Told}
 use Rattle.rustzx.specs.Panics.{Run, done, panics}
-use Rattle.rustzx.specs.Controller.{ZXController}
+use Rattle.rustzx.specs.Controller.{ZXController, new, withRom}
 use Rattle.rustzx.specs.Related.{Related}
 use Rattle.rustzx.specs.Calls.{Call, Given, performed, TimedByRust}
+
+-- the slices hold the Rust's machine: their record is sound, and the world that it stands for among them is related to what the Rust holds. Each
+-- theorem on a call asks this of what is lent; a start brings it about, and every accepted call leaves it.
+pub record SameLent (rom : List ℕ) (c : ZXController) (l : Lent) : Type 0 where
+  pub bus : Bus
+  pub isHeld : heldBy (l .state) ≡ held.Sound bus
+  pub related : Related (bus .machine) rom c (lentWorld bus l)
+
+-- an accepted start: its number names a machine, "machine (0 = 48K, 1 = 128K)", and the slices hold the Rust's new controller of that machine, with
+-- the ROM that the host loads
+pub record SameStart (machine : ℕ) (rom : List ℕ) (s : Started) : Type 0 where
+  pub named : machineNumber (machineOf machine) ≡ machine
+  pub leaves : SameLent rom (withRom rom (new (machineOf machine))) (s .slices)
 
 -- "value or code (0 for a wait)": a read's value is the Rust's answer; a write's code is document 01's own, as the Rust answers a write nothing
 abbrev pub NoValue : Given → ℕ → Type 0
@@ -37,6 +56,7 @@ pub record SameTimed (m : ZXMachine) (rom : List ℕ) (k : Call) (Valued : Given
   pub int : Bool
   pub ends : performed k c ≡ done given
   pub related : Related m rom (given .controller) world
+  pub sound : Sound (busOf m world)
   pub code : o .code ≡ 0
   pub slices : o .slices ≡ lentBy m world
   pub answer : o .answer ≡ timedAnswer value closed int clocks blocks
@@ -58,13 +78,33 @@ pub record SamePart (k : Call) (c : ZXController) (bytes : List ℕ) : Type 0 wh
   pub ends : performed k c ≡ done given
   pub valued : given .answer ≡ bytes
 
+-- "a part reaches C by a 5-byte answer with its start as the number": of the lent slices, in the order in which they are counted, the bytes from
+-- that number on are the Rust's, as many as the part has
+abbrev pub startIn : List ℕ → ℕ
+startIn answer = longAt answer 1
+
+pub record SameFound (k : Call) (c : ZXController) (t : Told) (size : ℕ) (counted : List ℕ) : Type 0 where
+  pub given : Given
+  pub number : ℕ
+  pub ends : performed k c ≡ done given
+  pub code : t .code ≡ 0
+  pub answer : t .answer ≡ numberAnswer number
+  pub valued : given .answer ≡ take size (drop (startIn (t .answer)) counted)
+  pub whole : length (given .answer) ≡ size
+
 -- a call that changes the machine and is lent a part of it only: the Rust's call ends, and what it then holds is related to the world after
 pub record SameMove (m : ZXMachine) (rom : List ℕ) (k : Call) (c : ZXController) (after : World) : Type 0 where
   pub given : Given
   pub ends : performed k c ≡ done given
   pub related : Related m rom (given .controller) after
+  pub sound : Sound (busOf m after)
 
 -- a helper: a number that the Rust gives is the answer's, and where the Rust panics the call is refused by 8
 abbrev pub SameHelp : Run ℕ → Told → Type 0
 SameHelp (done n) t = (t .code ≡ 0) × (t .answer ≡ numberAnswer n)
 SameHelp panics t = t .code ≡ 8
+
+-- a call by the number of a page or a block: where the Rust gives a value the call returns 0, and where the Rust panics it returns the refusal
+abbrev pub SameRefusal : ℕ → Run Given → ℕ → Type 0
+SameRefusal refusal (done g) code = code ≡ 0
+SameRefusal refusal panics code = code ≡ refusal

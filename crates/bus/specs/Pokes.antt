@@ -1,4 +1,4 @@
--- The two calls of document 01 that change RAM and the one that pages, as operations of the bus, so that a run of calls is a run of operations.
+-- The calls of document 01 that take no time and change RAM or passed frames, as operations, so that a run of calls is a run of operations.
 -- Assumes nothing.
 use Prim.Native.Nat.{ℕ}
 use mathlib.Core.List.{List, [], _∷_}
