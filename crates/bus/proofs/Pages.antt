@@ -67,7 +67,11 @@ module _ (m : ZXMachine) where
       let g = regular m .heldInFrame in
       rw (due t, in-frame t)
       (split (s .frame) t
-      (λ k. rw (le-ltb t (s .frame) k, due (t - s .frame)) (simp (lt-ltb (t - s .frame) (s .contention) (omega arith), le-ltb t (s .contention) (omega arith), le-leb (s .contention + 192 * s .line) t (omega arith))))
+      (λ k.
+      let before = lt-ltb (t - s .frame) (s .contention) (omega arith) in
+      let begun = le-ltb t (s .contention) (omega arith) in
+      let over = le-leb (s .contention + 192 * s .line) t (omega arith) in
+      rw (le-ltb t (s .frame) k, due (t - s .frame)) (simp (before, begun, over)))
       (λ k. rw (lt-ltb t (s .frame) k) (due t)))
 
   -- a step moves the core's clock as the pages count
@@ -121,7 +125,9 @@ module _ (m : ZXMachine) (port : ℕ) where
       let one : d + 0 + 1 ≡ d + 1 = omega arith in
       record {
         clocks = rw (e, due m (c .clock)) (omega arith);
-        clock = rw (e, due m (c .clock), in-frame m (c .clock + (d + 1))) (step-clock m 1 c₁ ∙ rw (step-clock m (d + 0) c, anew-twice (s .frame) (c .clock) (d + 0) 1 h small, one));
+        clock =
+            rw (e, due m (c .clock), in-frame m (c .clock + (d + 1)))
+            (step-clock m 1 c₁ ∙ rw (step-clock m (d + 0) c, anew-twice (s .frame) (c .clock) (d + 0) 1 h small, one));
         paging = rw e (step-paging m 1 c₁ ∙ step-paging m (d + 0) c);
       }
   first-is c false h e =

@@ -23,7 +23,7 @@ abbrev pub lowBitReset : ℕ → Bool
 lowBitReset port = eqb (port % 2) 0
 
 -- "by two questions. High byte in contended memory: no; low bit reset: N:1, C:3. No, set: N:4. Yes, reset: C:1, C:3. Yes, set: C:1, C:1,
--- C:1, C:1."
+-- C:1, C:1." The rows stand on the 48K page; as we know it the 128K page has none of its own, and they are taken for both machines.
 abbrev pub rowOf : Bool → Bool → List Cycle
 rowOf false true = N 1 ∷ C 3 ∷ []
 rowOf false false = N 4 ∷ []

@@ -10,20 +10,13 @@ use Rattle.laws.proofs.Cases.{split}
 use Rattle.machine.specs.declared.ZXMachine.{ZXMachine}
 use Rattle.machine.specs.Numbers.{specsOf}
 use Rattle.record.specs.Record.{flagByte}
-use Rattle.bus.specs.World.{Core, World}
-use Rattle.bus.specs.Time.{Op, tick, colour, paged, poke, load, unpass, closes, inCore, does, worldAfter}
+use Rattle.bus.specs.World.{Core}
+use Rattle.bus.specs.Time.{Op, tick, colour, paged, poke, load, unpass, closes, inCore}
 use Rattle.bus.specs.Turns.{clocksOf, closedBy}
 use Rattle.bus.proofs.OneStep.{frame-long, closes-at, core-closed, core-goes}
 use Rattle.bus.proofs.Runs.{clocksIn, closedIn}
-use Rattle.bus.proofs.Runs as runs
 use Rattle.history.proofs.Time.{Small, count}
 use Rattle.history.proofs.Operations.{AllSmall, closings}
-
--- the world after operations, by crate `bus` and here, is one
-pub after-same : (m : ZXMachine) (os : List Op) (w : World) → worldAfter m os w ≡ runs.worldAfter m os w
-unfolding worldAfter runs.worldAfter
-after-same m [] w = refl
-after-same m (o ∷ os) w = after-same m os (does m o w)
 
 -- no operation is longer than all of them
 op-small : (o : Op) → clocksOf o ≤ 65541 → Small o

@@ -35,7 +35,6 @@ use Rattle.bus.specs.Time.{Op, paged, poke, load, unpass, inCore, inScreen, inE
 use Rattle.bus.specs.Turns.{clocksOf, blocksOf, closedBy, Turn, Part, ran, fresh}
 use Rattle.bus.specs.Calls.{plainWait, addressWait, portRead, readValue, portWrite, writeCode, repaged, pagingWrite}
 use Rattle.bus.proofs.Runs.{clocksIn, blocksIn, closedIn, ran-is, ran-world, fresh-blocks}
-use Rattle.bus.proofs.Runs as runs
 use Rattle.bus.proofs.PortClocks.{read-small, write-small}
 use Rattle.bus.proofs.TimedCalls.{Timed, plain-timed, address-timed, read-timed, write-timed}
 use Rattle.bus.proofs.Lengths.{SameLengths, Fits, lengths-kept, call-lengths}
@@ -53,7 +52,7 @@ use Rattle.history.specs.Demand.{opsOf, blind, callOps}
 use Rattle.history.proofs.Operations.{closings, AllSmall}
 use Rattle.history.proofs.Whole.{Sized, untouched, ram-changed, state-changed, nothing-behind, front-whole, LentWhole, lent-whole, handed-whole}
 use Rattle.history.proofs.Judging.{sizesOf, startLengths, lentFits, waitCauses, portCauses, toldCauses, writeCauses, loadCauses, noCauses, wayOf, verdictBy, code-is, Accepting, accepting, none-holds, same-code}
-use Rattle.history.proofs.Counts.{after-same, all-small, one-closing, closed-flag}
+use Rattle.history.proofs.Counts.{all-small, one-closing, closed-flag}
 
 -- what a call leaves, by the operations that it is
 pub record Tied (m : ZXMachine) (r : Left) (os : List Op) (w : World) : Type 0 where
@@ -160,7 +159,7 @@ module _ (m : ZXMachine) (w : World) (sound : SoundWorld m w) (sized : Sized m w
   -- ---- timed calls
   timed-kept : (f : Part) → Timed m f → w .core .passed < 4294967295 → Kept m (f (w .core)) w
   timed-kept f t room =
-      let same = ran-world (f (w .core)) (fresh m w) ∙ sym (after-same m (f (w .core)) w) in
+      let same = ran-world (f (w .core)) (fresh m w) in
       record {
         sound = subst (SoundWorld m) same (call-kept m f t w sound room);
         lengths = subst (SameLengths w) same (call-lengths m f t w);
@@ -172,14 +171,14 @@ module _ (m : ZXMachine) (w : World) (sound : SoundWorld m w) (sized : Sized m w
       → Tied m
       (record {
         code = 0;
-        slices = lentBy m (runs.worldAfter m os w);
-        timed = timedAnswer value (closedIn m os (w .core)) (interrupt (runs.worldAfter m os w .core .clock)) (0 + clocksIn os) (0 + blocksIn m os w);
+        slices = lentBy m (worldAfter m os w);
+        timed = timedAnswer value (closedIn m os (w .core)) (interrupt (worldAfter m os w .core .clock)) (0 + clocksIn os) (0 + blocksIn m os w);
       })
       os w
   answered os value k few =
       let one = one-closing m os (w .core) (sound .clock) (k .brief) in
       record {
-        slices = ap (lentBy m) (sym (after-same m os w));
+        slices = refl;
         clocks = long-back (0 + clocksIn os) (omega (arith, k .brief)) ∙ zero-add (clocksIn os);
         blocks = word-back (0 + blocksIn m os w) (omega arith) ∙ zero-add (blocksIn m os w);
         closed = closed-flag m os (w .core) one;

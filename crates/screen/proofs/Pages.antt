@@ -65,7 +65,7 @@ module _ (byte : ℕ) where
     swaps true = agree-ink
     swaps false = agree-paper
 
-  -- and so is every pixel of a block, by its bit of the bitmap
+  -- and so is every pixel of a block: that a set bit of the bitmap is ink, and which pixel it is, is document 01's
   pub agree-pixel : (bitmap : ℕ) (on : Bool) (i : ℕ)
       → pixelOf byte bitmap on i ≡ cond (bit (7 - i) bitmap) (inkShown byte on) (paperShown byte on) + cond (pageBright byte) 8 0
   unfolding xor
