@@ -6,11 +6,10 @@ use mathlib.Core.Bool.{Bool, true, false, cond, not, _&&_, false≢true}
 use mathlib.Core.List.{List, [], _∷_}
 use mathlib.Core.Path.{_≡_, refl, sym, _∙_, ap}
 use native.Mathlib.Omega.{arith}
-use lib.Dec.{eqb, leb, ltb}
-use lib.ListN.{length, take, length-take}
-use lib.Seq.{take-all, length-take-le}
-use borrow.Author.Tests.{eq-eqb, ne-eqb, le-ltb, le-leb, lt-leb, eqb-false, not-true}
-use Rattle.laws.proofs.Cases.{by-bool, split, and-left, and-right}
+use lib.Dec.{eqb, ltb}
+use lib.ListN.{length}
+use borrow.Author.Tests.{eq-eqb, ne-eqb, le-ltb, eqb-false, not-true}
+use Rattle.laws.proofs.Cases.{by-bool, by-eq, cond-same, and-left, and-right}
 use Rattle.machine.specs.declared.ZXMachine.{ZXMachine}
 use Rattle.machine.specs.Numbers.{specsOf}
 use Rattle.record.specs.declared.Bus.{Bus}
@@ -43,10 +42,10 @@ use Rattle.answers.specs.Judges.{pictureFits, borderFits, timedFits, numberFits
 use Rattle.contracts.specs.Timed.{Lent, lentBy, timed, Started, start, waitInternal, waitAt, readIo, writeIo}
 use Rattle.contracts.specs.Plain.{Told, codeOf, tell, change, repage, withPassed, stillPage, readInternal, writeInternal, write7ffdCall, read7ffd, intActive, framesCount, resetFrames, loadPage, stillPicture, ramPageTold, blockTold, shownTold}
 use Rattle.contracts.specs.Helpers.{help, helperCall, colorHelped, bitmapLineAddr, bitmapLineRel, bitmapColRel, attrRowRel, attrColRel, colorFromBits}
-use Rattle.history.specs.Calls.{Lens, lentOf, Kind, startAgain, plain, mreq, noMreq, portIn, portOut, readByte, writeByte, writePaging, readPaging, askInterrupt, askFrames, resetPassed, loadRam, askPage, askBlock, askShown, still, helpLineAddr, helpLine, helpColumn, helpAttrRow, helpAttrColumn, helpColor, performed, called}
+use Rattle.history.specs.Calls.{Loan, lend, Lens, lentOf, Kind, startAgain, plain, mreq, noMreq, portIn, portOut, readByte, writeByte, writePaging, readPaging, askInterrupt, askFrames, resetPassed, loadRam, askPage, askBlock, askShown, still, helpLineAddr, helpLine, helpColumn, helpAttrRow, helpAttrColumn, helpColor, performed, called}
 use Rattle.history.specs.Demand.{blind}
 use Rattle.history.proofs.Operations.{picture-size, border-size}
-use Rattle.history.proofs.Whole.{Sized, same-front, LentWhole}
+use Rattle.history.proofs.Whole.{Sized, same-lent, loan-whole, LentWhole}
 
 -- the lengths of the slices that hold no record
 pub record Sizes : Type 0 where
@@ -218,7 +217,7 @@ code-is (helpAttrRow n answer) l = refl
 code-is (helpAttrColumn n answer) l = refl
 code-is (helpColor n answer) l = refl
 
--- ---- the record of a machine, lent whole or in part
+-- ---- the record of a machine, lent whole or not
 
 -- the number of the first condition that holds, 0 where none does
 unfoldable pub firstOf : List Cause → ℕ
@@ -256,45 +255,44 @@ unfolding judged firstOf
 accepted-if [] bus e = refl
 accepted-if (c ∷ cs) bus e = accepted-by (c .holds) (c .refusal) bus (accepted-if cs bus) e
 
-module _ (m : ZXMachine) (w : World) (sound : SoundWorld m w) (n : ℕ) where
+module _ (m : ZXMachine) (w : World) (sound : SoundWorld m w) (n : Loan) where
   abbrev bytes : List ℕ
   bytes = recordBytes (busOf m w)
 
   -- lent whole, the record is the machine's
-  held-whole : 23 ≤ n → heldBy (take n bytes) ≡ held.Sound (busOf m w)
-  held-whole h = ap heldBy (take-all n bytes h) ∙ held-encode (busOf m w) (facts-sound (busOf m w) sound)
+  held-whole : length (lend n bytes) ≡ 23 → heldBy (lend n bytes) ≡ held.Sound (busOf m w)
+  held-whole h = ap heldBy (loan-whole n bytes h) ∙ held-encode (busOf m w) (facts-sound (busOf m w) sound)
 
-  -- lent in part, it has the wrong length
-  held-part : n < 23 → heldBy (take n bytes) ≡ held.WrongLength
+  -- lent otherwise, it has the wrong length
+  held-wrong : (length (lend n bytes) ≡ 23 → ⊥) → heldBy (lend n bytes) ≡ held.WrongLength
   unfolding heldBy
-  held-part h =
-      let size : length (take n bytes) ≡ n = length-take-le n bytes (omega arith) in
-      rw (ne-eqb (length (take n bytes)) 23 (λ e. omega arith))
+  held-wrong h = rw (ne-eqb (length (lend n bytes)) 23 h)
 
-  -- THE CODE OF A JUDGED CALL: 2 for a record lent in part, else the first condition that holds.
-  pub judge-code : (causes : Bus → List Cause) → codeOf (judge (take n bytes) causes) ≡ cond (leb 23 n) (firstOf (causes (busOf m w))) 2
+  -- THE CODE OF A JUDGED CALL: 2 for a record that is not lent whole, else the first condition that holds.
+  pub judge-code : (causes : Bus → List Cause)
+      → codeOf (judge (lend n bytes) causes) ≡ cond (eqb (length (lend n bytes)) 23) (firstOf (causes (busOf m w))) 2
   judge-code causes =
-      split 23 n
-      (λ h. ap (λ (x : Held). codeOf (judgedHeld x causes)) (held-whole h) ∙ rw (le-leb 23 n h) (judged-code (causes (busOf m w)) (busOf m w)))
-      (λ h. ap (λ (x : Held). codeOf (judgedHeld x causes)) (held-part h) ∙ rw (lt-leb 23 n h))
+      by-eq (λ (k : ℕ). codeOf (judge (lend n bytes) causes) ≡ k) (length (lend n bytes)) 23
+      (λ h. ap (λ (x : Held). codeOf (judgedHeld x causes)) (held-whole h) ∙ judged-code (causes (busOf m w)) (busOf m w))
+      (λ h. ap (λ (x : Held). codeOf (judgedHeld x causes)) (held-wrong h))
 
   -- A call that is accepted was lent the record whole, none of its conditions holds, and it goes by the machine's own record.
   pub record Accepting (causes : Bus → List Cause) : Type 0 where
-    pub whole : 23 ≤ n
+    pub whole : length (lend n bytes) ≡ 23
     pub none : firstOf (causes (busOf m w)) ≡ 0
-    pub verdict : judge (take n bytes) causes ≡ Accepted (busOf m w)
+    pub verdict : judge (lend n bytes) causes ≡ Accepted (busOf m w)
 
-  pub accepting : (causes : Bus → List Cause) → codeOf (judge (take n bytes) causes) ≡ 0 → Accepting causes
+  pub accepting : (causes : Bus → List Cause) → codeOf (judge (lend n bytes) causes) ≡ 0 → Accepting causes
   accepting causes e =
-      let code : cond (leb 23 n) (firstOf (causes (busOf m w))) 2 ≡ 0 = sym (judge-code causes) ∙ e in
-      split 23 n
-      (λ h. let none : firstOf (causes (busOf m w)) ≡ 0 = rw (le-leb 23 n h) at code in
+      by-eq (λ (k : ℕ). k ≡ 0 → Accepting causes) (length (lend n bytes)) 23
+      (λ h none.
       record {
         whole = h;
         none = none;
         verdict = ap (λ (x : Held). judgedHeld x causes) (held-whole h) ∙ accepted-if (causes (busOf m w)) (busOf m w) none;
       })
-      (λ h. let two : _≡_ {A = ℕ} 2 0 = rw (lt-leb 23 n h) at code in absurd (omega arith))
+      (λ h two. absurd (omega arith))
+      (sym (judge-code causes) ∙ e)
 
 -- none of the conditions of an accepted call holds
 pub none-holds : (c : Cause) (cs : List Cause) → firstOf (c ∷ cs) ≡ 0 → (c .holds ≡ false) × (firstOf cs ≡ 0)
@@ -328,19 +326,21 @@ module _ (m : ZXMachine) (w : World) (sound : SoundWorld m w) (sized : Sized m w
   same-sizes : sizesOf (lentOf n (lentBy m w)) ≡ sizesOf (lentOf n (lentBy m (blind (w .core))))
   same-sizes =
       rw (
-        same-front (n .a) (w .screen .a) clearPicture (sized .a ∙ sym picture-size),
-        same-front (n .b) (w .screen .b) clearPicture (sized .b ∙ sym picture-size),
-        same-front (n .border) (w .edge .pixels) clearBorder (sized .pixels ∙ sym border-size),
+        same-lent (n .a) (w .screen .a) clearPicture (sized .a ∙ sym picture-size),
+        same-lent (n .b) (w .screen .b) clearPicture (sized .b ∙ sym picture-size),
+        same-lent (n .border) (w .edge .pixels) clearBorder (sized .pixels ∙ sym border-size),
       )
+
+  same-record : length (lend (n .state) (recordBytes (busOf m w))) ≡ length (lend (n .state) (recordBytes (busOf m (blind (w .core)))))
+  same-record = same-lent (n .state) (recordBytes (busOf m w)) (recordBytes (busOf m (blind (w .core)))) refl
 
   same-by : (y : Way) → codeBy y (lentOf n (lentBy m w)) ≡ codeBy y (lentOf n (lentBy m (blind (w .core))))
   same-by (starting machine) =
-      ap (startCode machine (length (take (n .state) (recordBytes (busOf m w))))) same-sizes
-      ∙ ap (λ (k : ℕ). startCode machine k (sizesOf (lentOf n (lentBy m (blind (w .core))))))
-      (same-front (n .state) (recordBytes (busOf m w)) (recordBytes (busOf m (blind (w .core)))) refl)
+      ap (startCode machine (length (lend (n .state) (recordBytes (busOf m w))))) same-sizes
+      ∙ ap (λ (k : ℕ). startCode machine k (sizesOf (lentOf n (lentBy m (blind (w .core)))))) same-record
   same-by (judging causes) =
       judge-code m w sound (n .state) (λ bus. causes (sizesOf (lentOf n (lentBy m w))) (bus .machine) (bus .passed))
-      ∙ ap (λ (s : Sizes). cond (leb 23 (n .state)) (firstOf (causes s m (w .core .passed))) 2) same-sizes
+      ∙ (λ i. cond (eqb (same-record i) 23) (firstOf (causes (same-sizes i) m (w .core .passed))) 2)
       ∙ sym (judge-code m (blind (w .core)) (blind-sound m w sound) (n .state) (λ bus. causes (sizesOf (lentOf n (lentBy m (blind (w .core))))) (bus .machine) (bus .passed)))
   same-by (helping code) = refl
 
@@ -350,20 +350,19 @@ module _ (m : ZXMachine) (w : World) (sound : SoundWorld m w) (sized : Sized m w
   same-code k =
       code-is k (lentOf n (lentBy m w)) ∙ same-by (wayOf k) ∙ sym (code-is k (lentOf n (lentBy m (blind (w .core)))))
 
--- ---- good input
+-- ---- good input and bad lengths
 
--- A wait of at most 65,535 clocks that is lent its slices whole is accepted while passed frames have room.
 module _ (m : ZXMachine) (w : World) (sound : SoundWorld m w) (sized : Sized m w) (n : Lens) where
+  -- A wait of at most 65,535 clocks that is lent its slices whole is accepted while passed frames have room.
   pub wait-accepted : (clocks : ℕ) (answer : List ℕ) → clocks ≤ 65535 → length answer ≡ 10 → w .core .passed < 4294967295 → LentWhole n (lentBy m w)
       → called (record { lens = n; kind = plain clocks answer }) (lentBy m w) .code ≡ 0
   unfolding called wayOf firstOf
   wait-accepted clocks answer few size room whole =
       let l = lentOf n (lentBy m w) in
-      let far : 23 ≤ n .state = omega (arith, whole .state, length-take (n .state) (recordBytes (busOf m w))) in
       code-is (plain clocks answer) l
       ∙ judge-code m w sound (n .state) (λ bus. waitCauses clocks answer (sizesOf l) (bus .machine) (bus .passed))
       ∙ rw (
-        le-leb 23 (n .state) far,
+        eq-eqb (length (l .state)) 23 (whole .state),
         eq-eqb (length (l .ram)) (specsOf m .ram) (whole .ram ∙ sized .ram),
         eq-eqb (length (l .a)) 49152 (whole .a ∙ sized .a),
         eq-eqb (length (l .b)) 49152 (whole .b ∙ sized .b),
@@ -372,6 +371,16 @@ module _ (m : ZXMachine) (w : World) (sound : SoundWorld m w) (sized : Sized m w
         le-ltb 65535 clocks few,
         ne-eqb (w .core .passed) 4294967295 (λ e. omega arith),
       )
+
+  -- One that is lent RAM of another length, shorter or longer, gets refusal 2, whatever else it is lent.
+  pub wait-refused : (clocks : ℕ) (answer : List ℕ) → (length (lend (n .ram) (w .core .ram)) ≡ length (w .core .ram) → ⊥)
+      → called (record { lens = n; kind = plain clocks answer }) (lentBy m w) .code ≡ 2
+  unfolding called wayOf firstOf
+  wait-refused clocks answer wrong =
+      let l = lentOf n (lentBy m w) in
+      code-is (plain clocks answer) l
+      ∙ judge-code m w sound (n .state) (λ bus. waitCauses clocks answer (sizesOf l) (bus .machine) (bus .passed))
+      ∙ rw (ne-eqb (length (l .ram)) (specsOf m .ram) (λ e. wrong (e ∙ sym (sized .ram)))) (cond-same (eqb (length (l .state)) 23) 2)
 
 -- ---- refusal 3
 
@@ -443,10 +452,10 @@ module _ (m : ZXMachine) (w : World) (sound : SoundWorld m w) (n : Lens) where
   never-by : (y : Way) → Clean y → codeBy y (lentOf n (lentBy m w)) ≡ 3 → ⊥
   never-by (starting machine) h e =
       start-never (ltb 1 machine)
-      (startLengths (machineOf machine) (length (take (n .state) (recordBytes (busOf m w)))) (sizesOf (lentOf n (lentBy m w)))) e
+      (startLengths (machineOf machine) (length (lend (n .state) (recordBytes (busOf m w)))) (sizesOf (lentOf n (lentBy m w)))) e
   never-by (judging causes) h e =
       let cs = causes (sizesOf (lentOf n (lentBy m w))) m (w .core .passed) in
-      by-bool (λ (k : ℕ). k ≡ 3 → ⊥) (leb 23 (n .state)) (λ f. clean-first cs (h _ m (w .core .passed))) (λ f z. omega arith)
+      by-bool (λ (k : ℕ). k ≡ 3 → ⊥) (eqb (length (lend (n .state) (recordBytes (busOf m w)))) 23) (λ f. clean-first cs (h _ m (w .core .passed))) (λ f z. omega arith)
       (sym (judge-code m w sound (n .state) (λ bus. causes (sizesOf (lentOf n (lentBy m w))) (bus .machine) (bus .passed))) ∙ e)
   never-by (helping code) h e = h e
 

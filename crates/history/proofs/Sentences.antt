@@ -27,14 +27,14 @@ use Rattle.bus.proofs.OneStep.{core-goes, screen-closed, screen-goes, closes-at
 use Rattle.bus.proofs.Closing.{completed, closing-shows}
 use Rattle.contracts.specs.Timed.{Lent, lentBy}
 use Rattle.history.specs.Log.{Still, Frame, Shows, AllShow, lastAt, Rising, reaching, blockBy, colourAt}
-use Rattle.history.specs.Calls.{Lens, plain, Call, called, reportedClosed, Typed, AllTyped, EachCall, NoStart, NoSecondStart}
+use Rattle.history.specs.Calls.{lend, Lens, plain, Call, called, reportedClosed, Typed, AllTyped, EachCall, NoStart, NoSecondStart}
 use Rattle.history.specs.Demand.{callOps, history, bytesAfter}
 use Rattle.history.proofs.Time.{count}
 use Rattle.history.proofs.Pictures.{hidden-caught, shown-caught}
 use Rattle.history.proofs.Drawn.{shows-block}
 use Rattle.history.proofs.Operations.{closings}
 use Rattle.history.proofs.Whole.{LentWhole}
-use Rattle.history.proofs.Judging.{never-unsound, wait-accepted}
+use Rattle.history.proofs.Judging.{never-unsound, wait-accepted, wait-refused}
 use Rattle.history.proofs.Tied.{tied}
 use Rattle.history.proofs.Demand3.{history-stands, demand3, each-call}
 
@@ -165,6 +165,15 @@ module _ (m : ZXMachine) (cs : List Call) (typed : AllTyped cs) (first : NoSecon
       let i = history-stands m cs typed first in
       subst (λ (l : Lent). LentWhole n l → called (record { lens = n; kind = plain clocks answer }) l .code ≡ 0) (sym (i .slices))
       (wait-accepted m (history m cs .world) (i .sound) (i .sized) n clocks answer few size room) whole
+
+  -- RAM lent together with bytes beyond it is refused with 2: an array of 131,072 bytes, for one, that has a 48K's RAM at its front and is lent whole.
+  pub long-ram : (n : Lens) (clocks : ℕ) (answer : List ℕ)
+      → length (bytesAfter m cs .slices .ram) < length (lend (n .ram) (bytesAfter m cs .slices .ram))
+      → called (record { lens = n; kind = plain clocks answer }) (bytesAfter m cs .slices) .code ≡ 2
+  long-ram n clocks answer =
+      let i = history-stands m cs typed first in
+      subst (λ (l : Lent). length (l .ram) < length (lend (n .ram) (l .ram)) → called (record { lens = n; kind = plain clocks answer }) l .code ≡ 2) (sym (i .slices))
+      (λ h. wait-refused m (history m cs .world) (i .sound) (i .sized) n clocks answer (λ e. omega arith))
 
   -- ---- the record
 

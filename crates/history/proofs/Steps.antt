@@ -3,7 +3,8 @@
 -- No equation of a contract is written out again here, so that none has to be held against the source by reading.
 -- Each lemma: whatever number r and whatever exit (primed) the contract admits for these arguments, `called` of the call that they make has that
 -- number, leaves the buffers as they are when the slices have come back, and has a timed call's answer.
--- Of the machine's own buffers l a call is lent the fronts `lentOf n l`; every other slice, and every number, is the call's own.
+-- Of the machine's own buffers l a call is lent `lentOf n l`, too little or too much of each by a mistake; every other slice, and every number, is the
+-- call's own.
 -- Assumes nothing.
 use Prim.Native.Nat.{ℕ}
 use mathlib.Core.Bool.{Bool, true, false, cond}

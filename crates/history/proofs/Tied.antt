@@ -9,8 +9,7 @@ use mathlib.Core.Path.{_≡_, refl, sym, _∙_, ap, subst}
 use native.Mathlib.Omega.{arith}
 use native.Mathlib.Nat.{zero-add}
 use lib.Dec.{eqb, ltb}
-use lib.ListN.{length, take}
-use lib.Seq.{take-all}
+use lib.ListN.{length}
 use borrow.Author.Tests.{eqb-true, eqb-false, ltb-false, not-false}
 use Rattle.laws.proofs.Cases.{and-left, cond-same, by-bool}
 use Rattle.laws.proofs.Conjunction.{each}
@@ -46,11 +45,11 @@ use Rattle.answers.specs.Judges.{pictureFits, borderFits, timedFits, judgeWait,
 use Rattle.answers.specs.Answers.{timedAnswer}
 use Rattle.contracts.specs.Timed.{Lent, lentBy, Outcome, timed, timedEnd, noValue, Started, start, waitInternal, waitAt, readIo, writeIo}
 use Rattle.contracts.specs.Plain.{codeOf, change, repage, withPaging, withPassed, writeInternal, write7ffdCall, resetFrames, loadPage}
-use Rattle.history.specs.Calls.{Lens, lentOf, handedBack, Kind, startAgain, plain, mreq, noMreq, portIn, portOut, readByte, writeByte, writePaging, readPaging, askInterrupt, askFrames, resetPassed, loadRam, askPage, askBlock, askShown, still, helpLineAddr, helpLine, helpColumn, helpAttrRow, helpAttrColumn, helpColor, Left, ofOutcome, withRam, withState, performed, called, reportedClocks, reportedBlocks, reportedClosed, Typed, NoStart, PortTakes}
+use Rattle.history.specs.Calls.{lend, Lens, lentOf, handedBack, Kind, startAgain, plain, mreq, noMreq, portIn, portOut, readByte, writeByte, writePaging, readPaging, askInterrupt, askFrames, resetPassed, loadRam, askPage, askBlock, askShown, still, helpLineAddr, helpLine, helpColumn, helpAttrRow, helpAttrColumn, helpColor, Left, ofOutcome, withRam, withState, performed, called, reportedClocks, reportedBlocks, reportedClosed, Typed, NoStart, PortTakes}
 use Rattle.bus.specs.Pokes.{poking}
 use Rattle.history.specs.Demand.{opsOf, blind, callOps}
 use Rattle.history.proofs.Operations.{closings, AllSmall}
-use Rattle.history.proofs.Whole.{Sized, untouched, ram-changed, state-changed, nothing-behind, front-whole, LentWhole, lent-whole, handed-whole}
+use Rattle.history.proofs.Whole.{Sized, loan-whole, untouched, ram-changed, state-changed, LentWhole, lent-whole, handed-whole}
 use Rattle.history.proofs.Judging.{sizesOf, startLengths, lentFits, waitCauses, portCauses, toldCauses, writeCauses, loadCauses, noCauses, wayOf, verdictBy, code-is, Accepting, accepting, none-holds, same-code}
 use Rattle.history.proofs.Counts.{all-small, one-closing, closed-flag}
 
@@ -166,15 +165,17 @@ module _ (m : ZXMachine) (w : World) (sound : SoundWorld m w) (sized : Sized m w
         brief = t .brief (w .core);
       }
 
-  -- the answer's bytes stand for the numbers that the operations report
-  answered : (os : List Op) (value : ℕ) → Kept m os w → blocksIn m os w ≤ 12288
-      → Tied m
-      (record {
+  -- what a timed call of these operations leaves
+  abbrev leftBy : List Op → ℕ → Left
+  leftBy os value =
+      record {
         code = 0;
         slices = lentBy m (worldAfter m os w);
         timed = timedAnswer value (closedIn m os (w .core)) (interrupt (worldAfter m os w .core .clock)) (0 + clocksIn os) (0 + blocksIn m os w);
-      })
-      os w
+      }
+
+  -- the answer's bytes stand for the numbers that the operations report
+  answered : (os : List Op) (value : ℕ) → Kept m os w → blocksIn m os w ≤ 12288 → Tied m (leftBy os value) os w
   answered os value k few =
       let one = one-closing m os (w .core) (sound .clock) (k .brief) in
       record {
@@ -197,23 +198,24 @@ module _ (m : ZXMachine) (w : World) (sound : SoundWorld m w) (sized : Sized m w
     unfolding timed
     timed-tied f value answer v e whole t room =
         let os = f m (w .core) in
+        let kept = timed-kept (f m) t room in
         let done : timed f value (lentOf n l) answer v ≡ timedEnd (ran os (fresh m w)) (value m (w .core)) =
         ap (timed f value (lentOf n l) answer) e
         ∙ ap (λ (x : Lent). timed f value x answer (Accepted (busOf m w))) (lent-whole n l whole) in
-        let left : back n l (ofOutcome (timed f value (lentOf n l) answer v)) ≡ ofOutcome (timedEnd (ran os (fresh m w)) (value m (w .core))) =
-        ap (λ (o : Outcome). back n l (ofOutcome o)) done
-        ∙ ap (λ (s : Lent). record { code = 0; slices = s; timed = timedEnd (ran os (fresh m w)) (value m (w .core)) .answer }) (handed-whole n l whole _) in
-        subst (λ (r : Left). Tied m r os w)
-        (sym (left ∙ ap (λ (x : Turn). ofOutcome (timedEnd x (value m (w .core)))) (ran-is os (fresh m w))))
-        (answered os (value m (w .core)) (timed-kept (f m) t room) (rw (fresh-blocks os m w) at (call-fits m (f m) t w sound .1)))
+        let left : back n l (ofOutcome (timed f value (lentOf n l) answer v)) ≡ leftBy os (value m (w .core)) =
+        ap (λ (o : Outcome). back n l (ofOutcome o)) (done ∙ ap (λ (x : Turn). timedEnd x (value m (w .core))) (ran-is os (fresh m w)))
+        ∙ ap (λ (s : Lent). record { code = 0; slices = s; timed = leftBy os (value m (w .core)) .timed })
+        (handed-whole n m w (worldAfter m os w) whole (kept .lengths)) in
+        subst (λ (r : Left). Tied m r os w) (sym left)
+        (answered os (value m (w .core)) kept (rw (fresh-blocks os m w) at (call-fits m (f m) t w sound .1)))
 
     -- what it takes to be lent them whole
-    whole-lent : 23 ≤ n .state → lentFits (sizesOf (lentOf n l)) m ≡ true → LentWhole n l
+    whole-lent : length (lend (n .state) (recordBytes (busOf m w))) ≡ 23 → lentFits (sizesOf (lentOf n l)) m ≡ true → LentWhole n l
     whole-lent h e =
         let s = sizesOf (lentOf n l) in
         let fit = each (eqb (s .ram) (specsOf m .ram)) (pictureFits (s .a) ∷ pictureFits (s .b) ∷ borderFits (s .border) ∷ []) e in
         record {
-          state = ap length (take-all (n .state) (recordBytes (busOf m w)) h);
+          state = h;
           ram = eqb-true (s .ram) (specsOf m .ram) (fit 0) ∙ sym (sized .ram);
           a = eqb-true (s .a) 49152 (fit 1) ∙ sym (sized .a);
           b = eqb-true (s .b) 49152 (fit 2) ∙ sym (sized .b);
@@ -325,6 +327,11 @@ module _ (m : ZXMachine) (w : World) (sound : SoundWorld m w) (sized : Sized m w
     unfolding worldAfter
     asking-tied k t e = still-tied k [] t quiet-none (ap (handedBack n l) e ∙ untouched n l)
 
+    -- one that was lent RAM whole and leaves in it the RAM of the world after it leaves that world
+    ram-left : (os : List Op) (xs : List ℕ) → Quiet os → length (lend (n .ram) (w .core .ram)) ≡ length (w .core .ram)
+        → withRam l xs ≡ lentBy m (worldAfter m os w) → handedBack n l (withRam (lentOf n l) xs) ≡ lentBy m (worldAfter m os w)
+    ram-left os xs q e same = ram-changed n l xs e (ap (λ (x : Lent). length (x .ram)) same ∙ q .kept .lengths .ram) ∙ same
+
     -- a byte write
     poke-world : (p : Place) (value : ℕ) → withRam l (pokedIn p (w .core .ram) value) ≡ lentBy m (worldAfter m (poking p value) w)
     unfolding worldAfter inCore inScreen inEdge
@@ -332,7 +339,7 @@ module _ (m : ZXMachine) (w : World) (sound : SoundWorld m w) (sized : Sized m w
     poke-world (place.Ram at) value = refl
 
     write-judged : codeOf (verdictBy writeCauses (lentOf n l)) ≡ 0
-        → (verdictBy writeCauses (lentOf n l) ≡ Accepted (busOf m w)) × (length (take (n .ram) (w .core .ram)) ≡ length (w .core .ram))
+        → (verdictBy writeCauses (lentOf n l) ≡ Accepted (busOf m w)) × (length (lend (n .ram) (w .core .ram)) ≡ length (w .core .ram))
     write-judged e =
         let a = accepting m w sound (n .state) (λ bus. writeCauses (sizesOf (lentOf n l)) (bus .machine) (bus .passed)) e in
         let first = none-holds _ _ (a .none) in
@@ -344,24 +351,23 @@ module _ (m : ZXMachine) (w : World) (sound : SoundWorld m w) (sized : Sized m w
     write-tied addr value e =
         let a = write-judged e in
         let p = placeOf m (w .core .paging) addr in
-        let new : Bus → List ℕ = λ bus. poked (bus .machine) (bus .paging) (take (n .ram) (w .core .ram)) addr value in
+        let new : Bus → List ℕ = λ bus. poked (bus .machine) (bus .paging) (lend (n .ram) (w .core .ram)) addr value in
         still-tied (writeByte addr value) (poking p value) refl (quiet-poke p value)
-        (ap (λ (v : Verdict). handedBack n l (withRam (lentOf n l) (change new (take (n .ram) (w .core .ram)) v .slice))) (a .0)
-        ∙ ram-changed n l (pokedIn p (take (n .ram) (w .core .ram)) value) (nothing-behind (n .ram) (w .core .ram) (a .1))
-        ∙ ap (λ (xs : List ℕ). withRam l (pokedIn p xs value)) (front-whole (n .ram) (w .core .ram) (a .1))
-        ∙ poke-world p value)
+        (ap (λ (v : Verdict). handedBack n l (withRam (lentOf n l) (change new (lend (n .ram) (w .core .ram)) v .slice))) (a .0)
+        ∙ ap (λ (xs : List ℕ). handedBack n l (withRam (lentOf n l) (pokedIn p xs value))) (loan-whole (n .ram) (w .core .ram) (a .1))
+        ∙ ram-left (poking p value) (pokedIn p (w .core .ram) value) (quiet-poke p value) (a .1) (poke-world p value))
 
     -- a page load
     load-judged : (bytes : List ℕ) (page : ℕ) → codeOf (verdictBy (loadCauses bytes page) (lentOf n l)) ≡ 0
         → (verdictBy (loadCauses bytes page) (lentOf n l) ≡ Accepted (busOf m w))
-        × (length (take (n .ram) (w .core .ram)) ≡ length (w .core .ram))
+        × (length (lend (n .ram) (w .core .ram)) ≡ length (w .core .ram))
         × (length bytes ≡ 16384)
         × (16384 * page + 16384 ≤ length (w .core .ram))
     load-judged bytes page e =
         let a = accepting m w sound (n .state) (λ bus. loadCauses bytes page (sizesOf (lentOf n l)) (bus .machine) (bus .passed)) e in
         let first = none-holds _ _ (a .none) in
         let second = none-holds _ _ (first .1) in
-        let fit = each (eqb (length (take (n .ram) (w .core .ram))) (specsOf m .ram)) (eqb (length bytes) 16384 ∷ []) (not-false _ (first .0)) in
+        let fit = each (eqb (length (lend (n .ram) (w .core .ram))) (specsOf m .ram)) (eqb (length bytes) 16384 ∷ []) (not-false _ (first .0)) in
         let there = exists-fits m page (not-false _ (second .0)) in (
           a .verdict,
           eqb-true _ (specsOf m .ram) (fit 0) ∙ sym (sized .ram),
@@ -378,18 +384,14 @@ module _ (m : ZXMachine) (w : World) (sound : SoundWorld m w) (sized : Sized m w
     unfolding performed loadPage judgeLoad
     load-tied bytes page e =
         let a = load-judged bytes page e in
-        let front = take (n .ram) (w .core .ram) in
-        let new : Bus → List ℕ = λ bus. loaded page bytes front in
+        let slice = lend (n .ram) (w .core .ram) in
+        let new : Bus → List ℕ = λ bus. loaded page bytes slice in
         still-tied (loadRam bytes page) (load page bytes ∷ []) refl (quiet-load page bytes (a .2) (a .3))
-        (ap (λ (v : Verdict). handedBack n l (withRam (lentOf n l) (change new front v .slice))) (a .0)
-        ∙ ram-changed n l (loaded page bytes front) (nothing-behind (n .ram) (w .core .ram) (a .1))
-        ∙ ap (λ (xs : List ℕ). withRam l (loaded page bytes xs)) (front-whole (n .ram) (w .core .ram) (a .1))
-        ∙ load-world bytes page)
+        (ap (λ (v : Verdict). handedBack n l (withRam (lentOf n l) (change new slice v .slice))) (a .0)
+        ∙ ap (λ (xs : List ℕ). handedBack n l (withRam (lentOf n l) (loaded page bytes xs))) (loan-whole (n .ram) (w .core .ram) (a .1))
+        ∙ ram-left (load page bytes ∷ []) (loaded page bytes (w .core .ram)) (quiet-load page bytes (a .2) (a .3)) (a .1) (load-world bytes page))
 
     -- the reset of passed frames
-    record-whole : 23 ≤ n .state → length (take (n .state) (recordBytes (busOf m w))) ≡ length (recordBytes (busOf m w))
-    record-whole h = ap length (take-all (n .state) (recordBytes (busOf m w)) h)
-
     reset-world : withState l (recordBytes (withPassed 0 (busOf m w))) ≡ lentBy m (worldAfter m (unpass ∷ []) w)
     unfolding worldAfter inCore inScreen inEdge
     reset-world = refl
@@ -398,11 +400,11 @@ module _ (m : ZXMachine) (w : World) (sound : SoundWorld m w) (sized : Sized m w
     unfolding performed resetFrames judgeState
     reset-tied e =
         let a = accepting m w sound (n .state) (λ bus. noCauses (sizesOf (lentOf n l)) (bus .machine) (bus .passed)) e in
-        let front = take (n .state) (recordBytes (busOf m w)) in
+        let slice = lend (n .state) (recordBytes (busOf m w)) in
         let new : Bus → List ℕ = λ bus. recordBytes (withPassed 0 bus) in
         still-tied resetPassed (unpass ∷ []) refl quiet-unpass
-        (ap (λ (v : Verdict). handedBack n l (withState (lentOf n l) (change new front v .slice))) (a .verdict)
-        ∙ state-changed n l (recordBytes (withPassed 0 (busOf m w))) (nothing-behind (n .state) (recordBytes (busOf m w)) (record-whole (a .whole)))
+        (ap (λ (v : Verdict). handedBack n l (withState (lentOf n l) (change new slice v .slice))) (a .verdict)
+        ∙ state-changed n l (recordBytes (withPassed 0 (busOf m w))) (a .whole) refl
         ∙ reset-world)
 
     -- a 7FFD write
@@ -422,12 +424,11 @@ module _ (m : ZXMachine) (w : World) (sound : SoundWorld m w) (sized : Sized m w
     unfolding performed write7ffdCall judgeTold
     paging-tied v answer h e =
         let a = accepting m w sound (n .state) (λ bus. toldCauses answer (sizesOf (lentOf n l)) (bus .machine) (bus .passed)) e in
-        let front = take (n .state) (recordBytes (busOf m w)) in
+        let slice = lend (n .state) (recordBytes (busOf m w)) in
         let p = write7ffd m (w .core .paging) v in
         still-tied (writePaging v answer) (repaged p) refl (quiet-repaged v h p (takes m (w .core .paging) v))
-        (ap (λ (x : Verdict). handedBack n l (withState (lentOf n l) (repage v front answer x .state))) (a .verdict)
-        ∙ state-changed n l (recordBytes (withPaging (pagingAfter p (w .core .paging)) (busOf m w)))
-        (nothing-behind (n .state) (recordBytes (busOf m w)) (record-whole (a .whole)))
+        (ap (λ (x : Verdict). handedBack n l (withState (lentOf n l) (repage v slice answer x .state))) (a .verdict)
+        ∙ state-changed n l (recordBytes (withPaging (pagingAfter p (w .core .paging)) (busOf m w))) (a .whole) refl
         ∙ paged-world p)
 
     -- ---- every accepted call

@@ -1,16 +1,19 @@
--- Buffers lent whole or in part: what is lent and left alone comes back as it was, and what a call accepts was lent whole.
+-- Buffers lent whole, in part, or with what follows them: what is lent and left alone comes back as it was, and what a call accepts was lent whole.
 -- Assumes nothing.
 use Prim.Native.Nat.{ℕ, _≤_}
-use mathlib.Core.List.{List, [], append-nil}
-use mathlib.Core.Path.{_≡_}
+use mathlib.Core.List.{List, _++_, append-nil}
+use mathlib.Core.Path.{_≡_, refl, sym, _∙_}
 use native.Mathlib.Omega.{arith}
-use lib.ListN.{length, take, drop, take-append-drop, length-take, drop-of-length-le}
-use lib.Seq.{take-all}
+use lib.ListN.{length, take, take-append-drop, length-take, length-append, drop-of-length-le}
+use lib.Seq.{take-all, take-take, take-append-seam, take-append-le}
+use Rattle.laws.proofs.Cases.{split}
 use Rattle.machine.specs.declared.ZXMachine.{ZXMachine}
 use Rattle.machine.specs.Numbers.{specsOf}
-use Rattle.bus.specs.World.{World}
-use Rattle.contracts.specs.Timed.{Lent}
-use Rattle.history.specs.Calls.{Lens, lentOf, handedBack, withRam, withState}
+use Rattle.record.specs.Record.{recordBytes}
+use Rattle.bus.specs.World.{World, busOf}
+use Rattle.bus.proofs.Lengths.{SameLengths}
+use Rattle.contracts.specs.Timed.{Lent, lentBy}
+use Rattle.history.specs.Calls.{Loan, lend, handBack, Lens, lentOf, handedBack, withRam, withState}
 
 -- the memory of a machine has the lengths that document 01 gives it
 pub record Sized (m : ZXMachine) (w : World) : Type 0 where
@@ -19,85 +22,90 @@ pub record Sized (m : ZXMachine) (w : World) : Type 0 where
   pub b : length (w .screen .b) ≡ 49152
   pub pixels : length (w .edge .pixels) ≡ 76800
 
--- two lists of one length, of which the same front is lent
-pub same-front : (n : ℕ) (xs ys : List ℕ) → length xs ≡ length ys → length (take n xs) ≡ length (take n ys)
-same-front n xs ys e = rw (length-take n xs, length-take n ys, e)
+-- two buffers of one length, of which the same is lent
+pub same-lent : (n : Loan) (xs ys : List ℕ) → length xs ≡ length ys → length (lend n xs) ≡ length (lend n ys)
+same-lent n xs ys e =
+    rw (
+      length-take (n .count) (xs ++ n .beyond),
+      length-take (n .count) (ys ++ n .beyond),
+      length-append xs (n .beyond),
+      length-append ys (n .beyond),
+      e,
+    )
 
--- a front that is as long as the list is the list, and leaves nothing behind it
-module _ (n : ℕ) (xs : List ℕ) (e : length (take n xs) ≡ length xs) where
-  far : length xs ≤ n
-  far = let f = length-take n xs in omega arith
+-- THE LAWS OF ONE LOAN.
+module _ (n : Loan) (xs : List ℕ) where
+  -- as far as the buffer goes, what is lent is the buffer's front: what follows the buffer has no say there
+  inside : take (length xs) (lend n xs) ≡ take (n .count) xs
+  inside =
+      split (length xs) (n .count)
+      (λ h. take-take (length xs) (n .count) (xs ++ n .beyond) h ∙ take-append-seam xs (n .beyond) ∙ sym (take-all (n .count) xs h))
+      (λ h. let few = length-take (n .count) (xs ++ n .beyond) in
+      take-all (length xs) (lend n xs) (omega arith) ∙ take-append-le (n .count) xs (n .beyond) (omega arith))
 
-  pub front-whole : take n xs ≡ xs
-  front-whole = take-all n xs far
+  -- a slice that is left as it was lent hands the buffer back as it was, however it was lent
+  pub loan-untouched : handBack n xs (lend n xs) ≡ xs
+  loan-untouched = rw inside (take-append-drop (n .count) xs)
 
-  pub nothing-behind : drop n xs ≡ []
-  nothing-behind = drop-of-length-le xs {i = n} far
+  -- a slice of the buffer's own length is the buffer, and it is handed back as it is left
+  module _ (e : length (lend n xs) ≡ length xs) where
+    far : length xs ≤ n .count
+    far = let f = length-take (n .count) (xs ++ n .beyond) in omega arith
+
+    pub loan-whole : lend n xs ≡ xs
+    loan-whole = sym (take-all (length xs) (lend n xs) (omega arith)) ∙ inside ∙ take-all (n .count) xs far
+
+    pub loan-back : (out : List ℕ) → length out ≡ length xs → handBack n xs out ≡ out
+    loan-back out same =
+        rw (take-all (length xs) out (omega arith), drop-of-length-le xs {i = n .count} far) (append-nil out)
 
 module _ (n : Lens) (l : Lent) where
-  -- A call that leaves what it was lent as it was leaves the buffers as they were, whatever part of each it was lent.
+  -- A call that leaves what it was lent as it was leaves the buffers as they were, whatever it was lent of each.
   pub untouched : handedBack n l (lentOf n l) ≡ l
-  untouched =
-      rw (
-        take-append-drop (n .state) (l .state),
-        take-append-drop (n .ram) (l .ram),
-        take-append-drop (n .a) (l .a),
-        take-append-drop (n .b) (l .b),
-        take-append-drop (n .border) (l .border),
-      )
+  untouched i =
+      record {
+        state = loan-untouched (n .state) (l .state) i;
+        ram = loan-untouched (n .ram) (l .ram) i;
+        a = loan-untouched (n .a) (l .a) i;
+        b = loan-untouched (n .b) (l .b) i;
+        border = loan-untouched (n .border) (l .border) i;
+      }
 
   -- one that leaves other bytes in RAM, or in the state record, and was lent that slice whole, changes that buffer alone
-  pub ram-changed : (xs : List ℕ) → drop (n .ram) (l .ram) ≡ [] → handedBack n l (withRam (lentOf n l) xs) ≡ withRam l xs
-  ram-changed xs e =
-      rw (
-        take-append-drop (n .state) (l .state),
-        e,
-        append-nil xs,
-        take-append-drop (n .a) (l .a),
-        take-append-drop (n .b) (l .b),
-        take-append-drop (n .border) (l .border),
-      )
+  pub ram-changed : (xs : List ℕ) → length (lend (n .ram) (l .ram)) ≡ length (l .ram) → length xs ≡ length (l .ram)
+      → handedBack n l (withRam (lentOf n l) xs) ≡ withRam l xs
+  ram-changed xs e same i = withRam (untouched i) (loan-back (n .ram) (l .ram) e xs same i)
 
-  pub state-changed : (xs : List ℕ) → drop (n .state) (l .state) ≡ [] → handedBack n l (withState (lentOf n l) xs) ≡ withState l xs
-  state-changed xs e =
-      rw (
-        e,
-        append-nil xs,
-        take-append-drop (n .ram) (l .ram),
-        take-append-drop (n .a) (l .a),
-        take-append-drop (n .b) (l .b),
-        take-append-drop (n .border) (l .border),
-      )
+  pub state-changed : (xs : List ℕ) → length (lend (n .state) (l .state)) ≡ length (l .state) → length xs ≡ length (l .state)
+      → handedBack n l (withState (lentOf n l) xs) ≡ withState l xs
+  state-changed xs e same i = withState (untouched i) (loan-back (n .state) (l .state) e xs same i)
 
   -- the five slices are lent whole
   pub record LentWhole : Type 0 where
-    pub state : length (take (n .state) (l .state)) ≡ length (l .state)
-    pub ram : length (take (n .ram) (l .ram)) ≡ length (l .ram)
-    pub a : length (take (n .a) (l .a)) ≡ length (l .a)
-    pub b : length (take (n .b) (l .b)) ≡ length (l .b)
-    pub border : length (take (n .border) (l .border)) ≡ length (l .border)
+    pub state : length (lend (n .state) (l .state)) ≡ length (l .state)
+    pub ram : length (lend (n .ram) (l .ram)) ≡ length (l .ram)
+    pub a : length (lend (n .a) (l .a)) ≡ length (l .a)
+    pub b : length (lend (n .b) (l .b)) ≡ length (l .b)
+    pub border : length (lend (n .border) (l .border)) ≡ length (l .border)
 
   pub lent-whole : LentWhole → lentOf n l ≡ l
-  lent-whole h =
-      rw (
-        front-whole (n .state) (l .state) (h .state),
-        front-whole (n .ram) (l .ram) (h .ram),
-        front-whole (n .a) (l .a) (h .a),
-        front-whole (n .b) (l .b) (h .b),
-        front-whole (n .border) (l .border) (h .border),
-      )
+  lent-whole h i =
+      record {
+        state = loan-whole (n .state) (l .state) (h .state) i;
+        ram = loan-whole (n .ram) (l .ram) (h .ram) i;
+        a = loan-whole (n .a) (l .a) (h .a) i;
+        b = loan-whole (n .b) (l .b) (h .b) i;
+        border = loan-whole (n .border) (l .border) (h .border) i;
+      }
 
-  pub handed-whole : LentWhole → (out : Lent) → handedBack n l out ≡ out
-  handed-whole h out =
-      rw (
-        nothing-behind (n .state) (l .state) (h .state),
-        nothing-behind (n .ram) (l .ram) (h .ram),
-        nothing-behind (n .a) (l .a) (h .a),
-        nothing-behind (n .b) (l .b) (h .b),
-        nothing-behind (n .border) (l .border) (h .border),
-        append-nil (out .state),
-        append-nil (out .ram),
-        append-nil (out .a),
-        append-nil (out .b),
-        append-nil (out .border),
-      )
+-- the five slices lent whole, and left with other bytes of the same machine
+pub handed-whole : (n : Lens) (m : ZXMachine) (w w′ : World) → LentWhole n (lentBy m w) → SameLengths w w′
+    → handedBack n (lentBy m w) (lentBy m w′) ≡ lentBy m w′
+handed-whole n m w w′ h same i =
+    record {
+      state = loan-back (n .state) (recordBytes (busOf m w)) (h .state) (recordBytes (busOf m w′)) refl i;
+      ram = loan-back (n .ram) (w .core .ram) (h .ram) (w′ .core .ram) (same .ram) i;
+      a = loan-back (n .a) (w .screen .a) (h .a) (w′ .screen .a) (same .a) i;
+      b = loan-back (n .b) (w .screen .b) (h .b) (w′ .screen .b) (same .b) i;
+      border = loan-back (n .border) (w .edge .pixels) (h .border) (w′ .edge .pixels) (same .pixels) i;
+    }

@@ -8,39 +8,55 @@ use mathlib.Core.List.{List, [], _∷_, _++_}
 use mathlib.Core.Logic.{_⊎_}
 use mathlib.Core.Path.{_≡_}
 use lib.Dec.{eqb}
-use lib.ListN.{take, drop}
+use lib.ListN.{length, take, drop}
 use Rattle.record.specs.Words.{byteAt, wordAt, longAt}
 use Rattle.contracts.specs.Timed.{Lent, Outcome, start, waitInternal, waitAt, readIo, writeIo}
 use Rattle.contracts.specs.Plain.{Told, readInternal, writeInternal, write7ffdCall, read7ffd, intActive, framesCount, resetFrames, loadPage, stillPicture, ramPageTold, blockTold, shownTold}
 use Rattle.contracts.specs.Helpers.{bitmapLineAddr, bitmapLineRel, bitmapColRel, attrRowRel, attrColRel, colorFromBits}
 
--- how many bytes of each of its own buffers the firmware lends: all of them, or, by a mistake, fewer
+-- What the firmware lends of one of its own buffers: `count` bytes from the buffer's first on. A right call lends the buffer's own length. A mistaken
+-- one lends fewer, or more: then bytes that follow the buffer in memory are lent with it, and `beyond` holds these.
+pub record Loan : Type 0 where
+  pub count : ℕ
+  pub beyond : List ℕ
+
+-- the slice that a call is lent
+abbrev pub lend : Loan → List ℕ → List ℕ
+lend n buffer = take (n .count) (buffer ++ n .beyond)
+
+-- The buffer when a call has left `out` in that slice: what stands in `out` as far as the buffer goes, and then what was not lent of it. What stands
+-- beyond the buffer is not the machine's. A call that is lent too much is refused and writes nothing there; a second start alone could, and a history
+-- has none.
+abbrev pub handBack : Loan → List ℕ → List ℕ → List ℕ
+handBack n buffer out = take (length buffer) out ++ drop (n .count) buffer
+
+-- the loans of the machine's five buffers
 pub record Lens : Type 0 where
-  pub state : ℕ
-  pub ram : ℕ
-  pub a : ℕ
-  pub b : ℕ
-  pub border : ℕ
+  pub state : Loan
+  pub ram : Loan
+  pub a : Loan
+  pub b : Loan
+  pub border : Loan
 
 abbrev pub lentOf : Lens → Lent → Lent
 lentOf n l =
     record {
-      state = take (n .state) (l .state);
-      ram = take (n .ram) (l .ram);
-      a = take (n .a) (l .a);
-      b = take (n .b) (l .b);
-      border = take (n .border) (l .border);
+      state = lend (n .state) (l .state);
+      ram = lend (n .ram) (l .ram);
+      a = lend (n .a) (l .a);
+      b = lend (n .b) (l .b);
+      border = lend (n .border) (l .border);
     }
 
 -- the buffers when a call has left `out` in what it was lent of them
 abbrev pub handedBack : Lens → Lent → Lent → Lent
 handedBack n l out =
     record {
-      state = out .state ++ drop (n .state) (l .state);
-      ram = out .ram ++ drop (n .ram) (l .ram);
-      a = out .a ++ drop (n .a) (l .a);
-      b = out .b ++ drop (n .b) (l .b);
-      border = out .border ++ drop (n .border) (l .border);
+      state = handBack (n .state) (l .state) (out .state);
+      ram = handBack (n .ram) (l .ram) (out .ram);
+      a = handBack (n .a) (l .a) (out .a);
+      b = handBack (n .b) (l .b) (out .b);
+      border = handBack (n .border) (l .border) (out .border);
     }
 
 -- the calls, each with its numbers and with the contents of the slices that are not the machine's own: device record, ROM, page bytes, a
