@@ -16,7 +16,8 @@ use Rattle.record.specs.declared.Held.{Held}
 use Rattle.record.specs.declared.Held.the-variants as held
 use Rattle.record.specs.Record.{recordBytes, heldBy}
 use Rattle.record.proofs.Soundness.{sound-facts}
-use Rattle.record.proofs.Round.{Bytes, held-decode, held-sound, held-bytes}
+use Rattle.record.specs.Words.{Bytes}
+use Rattle.record.proofs.Round.{held-decode, held-sound, held-bytes}
 use Rattle.memory.specs.Paging.{pageExists}
 use Rattle.ports.specs.Devices.{flagsOf}
 use Rattle.answers.specs.declared.Verdict.the-variants.{Accepted}

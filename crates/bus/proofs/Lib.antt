@@ -8,4 +8,6 @@ pub mod Lengths
 pub mod Kept
 pub mod Closing
 pub mod Reports
+pub mod Merge
+pub mod PortSteps
 pub mod Moments

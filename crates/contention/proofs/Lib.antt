@@ -1,3 +1,2 @@
-pub mod CodeRuns
 pub mod CodeReady
 pub mod CodeCalls

@@ -17,7 +17,8 @@ use Rattle.record.specs.declared.Held.the-variants as held
 use Rattle.record.specs.Record.{recordBytes, heldBy, machineOf, startRecord}
 use Rattle.record.specs.Sound.{Sound}
 use Rattle.record.proofs.Soundness.{facts-sound}
-use Rattle.record.proofs.Round.{Bytes, held-encode, start-held}
+use Rattle.record.specs.Words.{Bytes}
+use Rattle.record.proofs.Round.{held-encode, start-held}
 use Rattle.memory.specs.declared.Paged.{Paged}
 use Rattle.memory.specs.Paging.{bitSet, write7ffd, pagingAfter}
 use Rattle.ports.specs.Devices.{devicesOf}

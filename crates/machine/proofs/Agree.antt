@@ -105,7 +105,7 @@ upto-one : (n : ℕ) → upto (suc n) 1 ≡ 1
 unfolding upto
 upto-one n = simp (le-leb 1 (suc n) (omega arith))
 
-ticks-before : (n step start t : ℕ) → t < start → ticks n step start t ≡ 0
+pub ticks-before : (n step start t : ℕ) → t < start → ticks n step start t ≡ 0
 unfolding ticks
 ticks-before zero step start t h = refl
 ticks-before (suc n) step start t h = simp (lt-leb start t h, ticks-before n step (start + step) t (omega arith))
@@ -126,13 +126,13 @@ ticks-is (suc n) step start t p h =
 pos : ℕ → ℕ → ℕ → ℕ → ℕ → ℕ
 pos k n step line c = cond (leb k (c / line)) (k * n) (n * (c / line) + upto n (c % line / step + 1))
 
-passed-before : (k n step line start t : ℕ) → t < start → passed k n step line start t ≡ 0
+pub passed-before : (k n step line start t : ℕ) → t < start → passed k n step line start t ≡ 0
 unfolding passed
 passed-before zero n step line start t h = refl
 passed-before (suc k) n step line start t h = simp (ticks-before n step start t h, passed-before k n step line (start + line) t (omega arith))
 
 -- a line that is long enough is full before the next one starts
-ticks-all : (n step line start t : ℕ) → 0 < step → n * step ≤ line → start + line ≤ t → ticks n step start t ≡ n
+pub ticks-all : (n step line start t : ℕ) → 0 < step → n * step ≤ line → start + line ≤ t → ticks n step start t ≡ n
 ticks-all n step line start t p w h = ticks-is n step start t p (omega arith) ∙ upto-all n ((t - start) / step + 1) (split n ((t - start) / step) (λ l. omega arith) (λ l. let z : ⊥ = omega (arith, div-lt-iff-lt-mul {k = step} {x = t - start} {y = n} p .0 l) in absurd z))
 
 -- a line on: one line more, the same clocks in it

@@ -1,5 +1,7 @@
 pub mod Rows
 pub mod Numbered
 pub mod Bounds
+pub mod Delays
 pub mod Agree
 pub mod Rising
+pub mod Reached

@@ -97,6 +97,23 @@ module _ (s : ZXSpecs) (g : Regular s) (t : ℕ) (h : s .frame ≤ t + 1) where
   pub border-position-at-end : borderPosition s t ≡ 76800
   border-position-at-end = end-position (borderAt s t) border-at-end
 
+is-end : (p : BorderPlace) → isFrameEnd p ≡ true → p ≡ FrameEnd
+is-end (At line pixel) e = cc
+is-end FrameEnd e = refl
+
+-- there the border's place is frame end
+pub border-end : (s : ZXSpecs) → Regular s → (t : ℕ) → s .frame ≤ t + 1 → borderAt s t ≡ FrameEnd
+border-end s g t h = is-end (borderAt s t) (border-at-end s g t h)
+
+-- before the first block no block has come, and before the first border pixel none
+pub position-before : (s : ZXSpecs) (t : ℕ) → t < s .block → blockPosition s t ≡ 0
+unfolding blocksAt
+position-before s t h = rw (lt-ltb t (s .block) h)
+
+pub border-before : (s : ZXSpecs) (t : ℕ) → t < s .border → borderAt s t ≡ At 0 0
+unfolding borderAt
+border-before s t h = rw (lt-ltb t (s .border) h)
+
 -- no border position is over 76,800, and each is even
 pub border-small : (s : ZXSpecs) (t : ℕ) → borderPosition s t ≤ 76800
 border-small s t = of-place (borderAt s t) (border-within s t) where

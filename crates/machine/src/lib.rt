@@ -2,6 +2,8 @@
 // What it promises: at every 32-bit clock each function gives exactly what document 01's "Numbers of the two machines" says; none asks anything of its caller.
 // Where its definitions stand: specs/Numbers.antt (the table of numbers), specs/Timing.antt (the readings of a clock), specs/Contended.antt (pages and ports).
 ghost use mathlib.Core.Path.{_≡_};
+ghost use Prim.Native.Nat.{_/_};
+ghost use lib.Dec.{leb};
 ghost use Rattle.machine.specs.Numbers.{specsOf, Regular};
 ghost use Rattle.machine.specs.Timing.{delay, blocksIn, blocksAt, blockPosition, borderIn, borderAt, borderPosition, frameEnd, interrupt};
 ghost use Rattle.machine.specs.Contended.{portContended, bankContended};
@@ -114,12 +116,33 @@ impl ZXMachine {
         }
     }
 
+    // Frame end by its clock, which is 160 clocks into the border's last line.
     pub fn frame_end(self, clocks: u32) -> bool
         ensures { λ r. ⌜ r ≡ frameEnd (specsOf self) clocks ⌝ }
     {
-        match self.next_border_pixel(clocks) {
-            BorderPlace::At { line: _, pixel: _ } => false,
-            BorderPlace::FrameEnd => true,
+        match self {
+            ZXMachine::Sinclair48K => end_reached_by(SPECS_48K, clocks),
+            ZXMachine::Sinclair128K => end_reached_by(SPECS_128K, clocks),
+        }
+    }
+
+    // Whether so many blocks have come: the clock of the last of them is asked for, which takes no division by the line.
+    pub fn has_reached_block(self, blocks: u32, clocks: u32) -> bool
+        ensures { λ r. ⌜ r ≡ leb blocks (blockPosition (specsOf self) clocks) ⌝ }
+    {
+        match self {
+            ZXMachine::Sinclair48K => block_reached_by(SPECS_48K, blocks, clocks),
+            ZXMachine::Sinclair128K => block_reached_by(SPECS_128K, blocks, clocks),
+        }
+    }
+
+    // The same of the border's pixel pairs.
+    pub fn has_reached_pair(self, pairs: u32, clocks: u32) -> bool
+        ensures { λ r. ⌜ r ≡ leb pairs (borderPosition (specsOf self) clocks / 2) ⌝ }
+    {
+        match self {
+            ZXMachine::Sinclair48K => pair_reached_by(SPECS_48K, pairs, clocks),
+            ZXMachine::Sinclair128K => pair_reached_by(SPECS_128K, pairs, clocks),
         }
     }
 
@@ -204,6 +227,52 @@ fn border_by(s: ZXSpecs, clocks: u32) -> BorderPlace
     } else {
         border_in(row, pixel)
     }
+}
+
+// Block n, counted from 1, is in line (n - 1) / 32, and there comes four clocks after the one before it.
+fn block_reached_by(s: ZXSpecs, blocks: u32, clocks: u32) -> bool
+    requires { ⌜ Regular s ⌝ }
+    ensures { λ r. ⌜ r ≡ leb blocks (blockPosition s clocks) ⌝ }
+{
+    let origin = s.block;
+    let line = s.line;
+    if blocks == 0 {
+        return true;
+    }
+    if 6144 < blocks {
+        return false;
+    }
+    let last = blocks - 1;
+    let due = origin + last / 32 * line + last % 32 * 4;
+    due <= clocks
+}
+
+// Pixel pair n, counted from 1, is in line (n - 1) / 160, and there comes a clock after the one before it.
+fn pair_reached_by(s: ZXSpecs, pairs: u32, clocks: u32) -> bool
+    requires { ⌜ Regular s ⌝ }
+    ensures { λ r. ⌜ r ≡ leb pairs (borderPosition s clocks / 2) ⌝ }
+{
+    let origin = s.border;
+    let line = s.line;
+    if pairs == 0 {
+        return true;
+    }
+    if 38400 < pairs {
+        return false;
+    }
+    let last = pairs - 1;
+    let due = origin + last / 160 * line + last % 160;
+    due <= clocks
+}
+
+fn end_reached_by(s: ZXSpecs, clocks: u32) -> bool
+    requires { ⌜ Regular s ⌝ }
+    ensures { λ r. ⌜ r ≡ frameEnd s clocks ⌝ }
+{
+    let origin = s.border;
+    let line = s.line;
+    let end = origin + 239 * line + 160;
+    end <= clocks
 }
 
 // Line 192 or later is the end.

@@ -1,19 +1,26 @@
-// What it is: painting: blocks of a video page into a picture, each block's bitmap byte found by the constant table of crate `offsets`.
+// What it is: painting: blocks of a video page into a picture, each block's bitmap byte found by the constant table of crate `offsets`, or, where the blocks are few, by shifts and masks of the block's number.
 // What it promises: the picture at exit is the definition of the page and the picture at entry: the blocks asked for as the pixel rule gives them, and no other byte changed.
-// Where its definitions stand: specs/Paint.antt, by the line rule and never by the table; the laws of painting are in proofs/Painting.antt.
+// Where its definitions stand: specs/Paint.antt, by the line rule and never by the table or the masks; the laws of painting are in proofs/Painting.antt.
 ghost use mathlib.Core.Path.{_≡_};
 ghost use Prim.Native.Nat.{_+_, _-_, _*_, _≤_, _<_};
 ghost use lib.ListN.{length, take, drop};
 ghost use lib.Seq.{sets};
-ghost use Rattle.offsets.specs.Offset.{IsTable};
+ghost use Rattle.offsets.specs.Offset.{offsetOf};
 ghost use Rattle.paint.specs.Paint.{blockAt, paint, blocks};
 
-// Block k of the page: eight pixels, from byte 8 k of the picture on.
-fn paint_block(table: &[u16; 6144], page: &[u8], picture: &mut [u8], k: usize, flash: bool)
-    requires { ⌜ IsTable (now table) × (k < 6144) × (length (now page) ≡ 16384) × (length (now picture) ≡ 49152) ⌝ }
+// Where the bitmap byte of block k stands in its page, by the bits of k: Y7 Y6 | Y2 Y1 Y0 | Y5 Y4 Y3 | X4 X3 X2 X1 X0 from Y7 .. Y0 X4 .. X0.
+fn offset(k: usize) -> usize
+    requires { ⌜ k < 6144 ⌝ }
+    ensures { λ r. ⌜ r ≡ offsetOf k ⌝ }
+{
+    k & 0x181F | (k << 3) & 0x0700 | (k >> 3) & 0x00E0
+}
+
+// Block k of the page, whose bitmap byte stands at o: eight pixels, from byte 8 k of the picture on.
+fn paint_block(page: &[u8], picture: &mut [u8], k: usize, o: usize, flash: bool)
+    requires { ⌜ (k < 6144) × (o ≡ offsetOf k) × (length (now page) ≡ 16384) × (length (now picture) ≡ 49152) ⌝ }
     ensures { λ r. ⌜ now (picture .exit) ≡ sets (now (picture .entry)) (8 * k) (blockAt (now (page .entry)) flash k) ⌝ }
 {
-    let o = table[k] as usize;
     let a = 0x1800 + k / 256 * 32 + k % 32;
     let p = screen::block(page[a], page[o], flash);
     let at = 8 * k;
@@ -27,7 +34,32 @@ fn paint_block(table: &[u16; 6144], page: &[u8], picture: &mut [u8], k: usize, f
     picture[at + 7] = p[7];
 }
 
-// Blocks `from` to `to` of a page, in raster order; how many they are. The table is named only where there is a block to paint, and once.
+// Blocks `from` to `to` of a page, in raster order, each offset by the rule: a few blocks cost less so than the table's 12 KB.
+fn paint_few(page: &[u8], picture: &mut [u8], from: usize, to: usize, flash: bool)
+    requires { ⌜ (from ≤ to) × (to ≤ 6144) × (length (now page) ≡ 16384) × (length (now picture) ≡ 49152) ⌝ }
+    ensures { λ r. ⌜ now (picture .exit) ≡ paint (now (page .entry)) flash from (to - from) (now (picture .entry)) ⌝ }
+{
+    let mut i = from;
+    while i < to {
+        paint_block(page, picture, i, offset(i), flash);
+        i += 1;
+    }
+}
+
+// The same by the table, which is named only here, and once.
+fn paint_many(page: &[u8], picture: &mut [u8], from: usize, to: usize, flash: bool)
+    requires { ⌜ (from ≤ to) × (to ≤ 6144) × (length (now page) ≡ 16384) × (length (now picture) ≡ 49152) ⌝ }
+    ensures { λ r. ⌜ now (picture .exit) ≡ paint (now (page .entry)) flash from (to - from) (now (picture .entry)) ⌝ }
+{
+    let table = offsets::table();
+    let mut k = from;
+    while k < to {
+        paint_block(page, picture, k, table[k] as usize, flash);
+        k += 1;
+    }
+}
+
+// Blocks `from` to `to` of a page; how many they are. Fewer than 64 are painted by the rule, and more by the table.
 pub fn paint_blocks(page: &[u8], picture: &mut [u8], from: usize, to: usize, flash: bool) -> usize
     requires { ⌜ (to ≤ 6144) × (length (now page) ≡ 16384) × (length (now picture) ≡ 49152) ⌝ }
     ensures { λ r. ⌜ (r ≡ to - from) × (now (picture .exit) ≡ paint (now (page .entry)) flash from (to - from) (now (picture .entry))) ⌝ }
@@ -35,11 +67,10 @@ pub fn paint_blocks(page: &[u8], picture: &mut [u8], from: usize, to: usize, fla
     if to <= from {
         return 0;
     }
-    let table = offsets::table();
-    let mut k = from;
-    while k < to {
-        paint_block(&table, page, picture, k, flash);
-        k += 1;
+    if to - from < 64 {
+        paint_few(page, picture, from, to, flash);
+    } else {
+        paint_many(page, picture, from, to, flash);
     }
     to - from
 }

@@ -1,18 +1,17 @@
 -- Each way out of the judging functions, over plain values: what the code has tested there is what the definitions test.
 -- Assumes nothing.
-use Prim.Native.Nat.{ℕ, _+_, _*_, _/_, _^_, _<_}
-use mathlib.Core.Path.{_≡_, refl}
+use Prim.Native.Nat.{ℕ, _+_, _*_, _^_, _<_}
+use mathlib.Core.Path.{_≡_, refl, sym}
 use mathlib.Core.List.{List}
-use mathlib.Core.Bool.{Bool, true, false, not, _&&_, _||_, and-true, and-false, or-false}
-use borrow.Author.Tests.{lt-ltb, eq-eqb, ne-eqb}
-use lib.Dec.{ltb, leb, eqb}
+use mathlib.Core.Bool.{Bool, true, false, not, _&&_, _||_, and-true, and-false}
+use native.Mathlib.Omega.{arith}
+use borrow.Author.Tests.{lt-ltb, eq-eqb, ne-eqb, eqb-true, eqb-false}
+use lib.Dec.{ltb, eqb}
 use lib.ListN.{length}
 use Rattle.machine.specs.declared.ZXMachine.{ZXMachine}
 use Rattle.machine.specs.declared.ZXSpecs.{ZXSpecs}
-use Rattle.machine.specs.declared.BorderPlace.{BorderPlace}
-use Rattle.machine.specs.declared.BorderPlace.the-variants.{At, FrameEnd}
 use Rattle.machine.specs.Numbers.{specsOf}
-use Rattle.machine.specs.Timing.{blockPosition, borderAt}
+use Rattle.machine.specs.Timing.{frameEnd}
 use Rattle.record.specs.declared.Bus.{Bus}
 use Rattle.record.specs.declared.Held.the-variants.{WrongLength, Unsound, Sound}
 use Rattle.record.specs.Words.{byteAt, wordAt, longAt}
@@ -41,15 +40,24 @@ decoded s m clock passed painted pairs e f g h i = rw (e, f, g, h, i)
 pub by-types : (b : Bus) → b .passed < 2 ^ 32 → b .paging < 256 → (ltb (b .phase) 32 && ltb (b .reported) 8 && ltb (b .colour) 8) ≡ inRange b
 by-types b p g = rw (lt-ltb (b .passed) (2 ^ 32) p, lt-ltb (b .paging) 256 g, and-true)
 
-module _ (b : Bus) (n : ℕ) (p : BorderPlace) (hn : n ≡ blockPosition (specsOf (b .machine)) (b .clock)) (hp : p ≡ borderAt (specsOf (b .machine)) (b .clock)) where
-  -- before frame end no beam is blocked
-  pub inside : (line pixel : ℕ) → p ≡ At line pixel
-      → (leb (b .painted) n && leb (b .pairs) ((320 * line + pixel) / 2) && not (b .blocked)) ≡ (paintedInPlace b && pairsInPlace b && blockedAtEnd b)
-  inside line pixel e = rw (← hp, e, hn, or-false)
+-- the tests of the three places, as the machine's functions answer them: where the beam is blocked, and where it is not
+module _ (b : Bus) (n p : Bool) (hn : n ≡ paintedInPlace b) (hp : p ≡ pairsInPlace b) where
+  pub placed-blocked : (e : Bool) → e ≡ frameEnd (specsOf (b .machine)) (b .clock) → b .blocked ≡ true
+      → ((n && p) && (e && eqb (b .pairs) 0)) ≡ (paintedInPlace b && pairsInPlace b && blockedAtEnd b)
+  placed-blocked e he h = rw (hn, hp, he, h)
 
-  pub at-end : p ≡ FrameEnd
-      → (leb (b .painted) n && leb (b .pairs) 38400 && (not (b .blocked) || eqb (b .pairs) 0)) ≡ (paintedInPlace b && pairsInPlace b && blockedAtEnd b)
-  at-end e = rw (← hp, e, hn)
+  pub placed-free : b .blocked ≡ false → (n && p) ≡ (paintedInPlace b && pairsInPlace b && blockedAtEnd b)
+  placed-free h = rw (hn, hp, h, and-true)
+
+-- the version byte by byte
+module _ (a b : ℕ) where
+  version-cases : (t u : Bool) → eqb a 1 ≡ t → eqb b 0 ≡ u → (t && u) ≡ eqb (a + 256 * b) 1
+  version-cases true true e f = sym (eq-eqb (a + 256 * b) 1 (omega (arith, eqb-true a 1 e, eqb-true b 0 f)))
+  version-cases true false e f = sym (ne-eqb (a + 256 * b) 1 (λ h. eqb-false b 0 f (omega (arith, eqb-true a 1 e))))
+  version-cases false u e f = sym (ne-eqb (a + 256 * b) 1 (λ h. eqb-false a 1 e (omega arith)))
+
+  pub version-bytes : (eqb a 1 && eqb b 0) ≡ eqb (a + 256 * b) 1
+  version-bytes = version-cases (eqb a 1) (eqb b 0) refl refl
 
 -- the code tests the 7FFD byte before the positions
 sooner : (a c d e f g : Bool) → (a && c && g) ≡ true → (d && e && f) ≡ (a && c && d && e && f && g)

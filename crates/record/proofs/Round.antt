@@ -21,8 +21,8 @@ use Rattle.machine.proofs.Bounds.{position-small}
 use Rattle.machine.proofs.Rising.{border-small}
 use Rattle.record.specs.declared.Bus.{Bus}
 use Rattle.record.specs.declared.Held.the-variants as held
-use Rattle.record.specs.Words.{byteAt, wordAt, longAt}
-use Rattle.record.specs.Record.{machineNumber, machineOf, flagByte, recordBytes, recordLength, recordOf, versionAt, machineAt, clockAt, passedAt, paintedAt, blockedAt, pairsAt, marked, codesInRange, soundBus, soundBytes, heldBy, startRecord}
+use Rattle.record.specs.Words.{byteAt, wordAt, longAt, Bytes}
+use Rattle.record.specs.Record.{machineNumber, machineOf, flagByte, recordBytes, recordLength, advanced, recordOf, versionAt, machineAt, clockAt, passedAt, paintedAt, blockedAt, pairsAt, marked, codesInRange, soundBus, soundBytes, heldBy, startRecord}
 use Rattle.record.specs.Sound.{Sound}
 use Rattle.record.proofs.Soundness.{sound-facts, start-sound}
 
@@ -102,10 +102,6 @@ pub held-encode : (b : Bus) → soundBus b ≡ true → heldBy (recordBytes b) �
 unfolding heldBy
 held-encode b t =
     rw (sound-encode b (sound-fits b (sound-facts b t)), t, decode-encode-sound b t)
-
--- every element is a byte, as in every slice of bytes in code
-abbrev pub Bytes : List ℕ → Type 0
-Bytes s = (k : ℕ) → byteAt s k < 2 ^ 8
 
 abbrev AllBytes : List ℕ → Type 0
 AllBytes [] = Unit {0}
@@ -235,3 +231,26 @@ start-bytes m = refl
 -- What a start writes is held as the start's record.
 pub start-held : (m : ZXMachine) → heldBy (recordBytes (startRecord m)) ≡ held.Sound (startRecord m)
 start-held m = held-encode (startRecord m) (start-sound m)
+
+-- ---- the bytes of a record that has moved on
+
+-- a record with another clock and other painted blocks
+abbrev pub movedTo : Bus → ℕ → ℕ → Bus
+movedTo b clock painted =
+    record {
+      machine = b .machine;
+      clock = clock;
+      passed = b .passed;
+      phase = b .phase;
+      painted = painted;
+      paging = b .paging;
+      reported = b .reported;
+      colour = b .colour;
+      blocked = b .blocked;
+      pairs = b .pairs;
+    }
+
+-- Writing the two into a record's bytes makes them the bytes of the record so moved.
+pub advanced-bytes : (b : Bus) (clock painted : ℕ) → advanced (recordBytes b) clock painted ≡ recordBytes (movedTo b clock painted)
+unfolding advanced
+advanced-bytes b clock painted = refl

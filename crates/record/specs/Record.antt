@@ -4,6 +4,7 @@ use Prim.Native.Nat.{ℕ, _+_, _/_, _^_}
 use mathlib.Core.List.{List, [], _∷_, _++_}
 use mathlib.Core.Bool.{Bool, true, false, cond, not, _&&_, _||_}
 use lib.ListN.{length}
+use lib.Seq.{sets}
 use lib.Dec.{eqb, leb, ltb}
 use Rattle.machine.specs.declared.ZXMachine.{ZXMachine}
 use Rattle.machine.specs.declared.ZXMachine.the-variants.{Sinclair48K, Sinclair128K}
@@ -84,6 +85,10 @@ pairsAt = blockedAt + 1
 -- "23 bytes"
 abbrev pub recordLength : ℕ
 recordLength = pairsAt + 2
+
+-- the bytes of a record whose clock and painted blocks alone have moved
+unfoldable pub advanced : List ℕ → ℕ → ℕ → List ℕ
+advanced s clock painted = sets (sets s clockAt (bytes32 clock)) paintedAt (bytes16 painted)
 
 -- the record that the bytes stand for
 abbrev pub recordOf : List ℕ → Bus

@@ -1,6 +1,6 @@
 -- Document 01, "little-endian": numbers of 16 and of 32 bits as bytes, low byte first.
 -- Assumes nothing.
-use Prim.Native.Nat.{ℕ, _+_, _*_, _/_, _%_}
+use Prim.Native.Nat.{ℕ, _+_, _*_, _/_, _%_, _^_, _<_}
 use mathlib.Core.List.{List, [], _∷_}
 use lib.ListN.{getD}
 
@@ -27,3 +27,7 @@ wordAt s k = le16 (byteAt s k) (byteAt s (k + 1))
 
 abbrev pub longAt : List ℕ → ℕ → ℕ
 longAt s k = le32 (byteAt s k) (byteAt s (k + 1)) (byteAt s (k + 2)) (byteAt s (k + 3))
+
+-- every element is a byte, as in every slice of bytes in code
+abbrev pub Bytes : List ℕ → Type 0
+Bytes s = (k : ℕ) → byteAt s k < 2 ^ 8

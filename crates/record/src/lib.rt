@@ -5,9 +5,8 @@ ghost use mathlib.Core.Path.{_≡_};
 ghost use Prim.Native.Nat.{_+_, _≤_};
 ghost use lib.ListN.{length};
 ghost use mathlib.Core.Bool.{_&&_};
-ghost use Rattle.record.specs.Words.{le16, le32, wordAt, longAt};
-ghost use Rattle.record.specs.Record.{recordLength, machineNumber, machineOf, flagByte, recordOf, recordBytes, marked, codesInRange, inRange, paintedInPlace, pairsInPlace, blockedAtEnd, pagingAllowed, soundBus, heldBy, startRecord};
-use machine::BorderPlace;
+ghost use Rattle.record.specs.Words.{le16, le32, wordAt, longAt, Bytes};
+ghost use Rattle.record.specs.Record.{recordLength, machineNumber, machineOf, flagByte, recordOf, recordBytes, advanced, marked, codesInRange, inRange, paintedInPlace, pairsInPlace, blockedAtEnd, pagingAllowed, soundBus, heldBy, startRecord};
 use machine::ZXMachine;
 
 // The state of the bus between two calls.
@@ -180,7 +179,29 @@ pub fn encode(dst: &mut [u8], b: Bus)
     bytes::copy(&all, dst);
 }
 
-// Mark, version, and the two bytes that have only two values.
+// What a slice of bytes holds are bytes. It does nothing, and tells proofs what the type says.
+pub fn are_bytes(s: &[u8])
+    ensures { λ _. ⌜ Bytes (now (s .entry)) ⌝ }
+{
+    if 0 < s.len() {
+        let _first = s[0];
+    }
+}
+
+// Clock and painted blocks alone, into the bytes of a record that keeps the rest.
+pub fn advance(dst: &mut [u8], clock: u32, painted: u16)
+    requires { ⌜ length (now dst) ≡ recordLength ⌝ }
+    ensures { λ _. ⌜ now (dst .exit) ≡ advanced (now (dst .entry)) clock painted ⌝ }
+{
+    dst[CLOCK] = (clock % 256) as u8;
+    dst[CLOCK + 1] = (clock / 256 % 256) as u8;
+    dst[CLOCK + 2] = (clock / 256 / 256 % 256) as u8;
+    dst[CLOCK + 3] = (clock / 256 / 256 / 256 % 256) as u8;
+    dst[PAINTED] = (painted % 256) as u8;
+    dst[PAINTED + 1] = (painted / 256 % 256) as u8;
+}
+
+// Mark, version, and the two bytes that have only two values. The version goes byte by byte, as it is written.
 fn coded(s: &[u8]) -> bool
     requires { ⌜ length (now s) ≡ recordLength ⌝ }
     ensures { λ r. ⌜ r ≡ (marked (now (s .entry)) && codesInRange (now (s .entry))) ⌝ }
@@ -188,7 +209,7 @@ fn coded(s: &[u8]) -> bool
     (s[0] == 85)
         & (s[1] == 76)
         & (s[2] == 66)
-        & (word_at(s, VERSION) == 1)
+        & ((s[VERSION] == 1) & (s[VERSION + 1] == 0))
         & ((s[MACHINE] < 2) & (s[BLOCKED] < 2))
 }
 
@@ -208,22 +229,22 @@ fn paging_allowed(m: ZXMachine, paging: u8) -> bool
     }
 }
 
-// The painted blocks and the border's beam are where the frame clock lets them be. The beam's place is worked out once.
+// The painted blocks and the border's beam are where the frame clock lets them be: each is asked for by its own clock, and no position is
+// worked out. Frame end is asked for only where the beam is blocked, which is seldom.
 fn in_place(b: Bus) -> bool
     ensures { λ r. ⌜ r ≡ (paintedInPlace b && pairsInPlace b && blockedAtEnd b) ⌝ }
 {
     let m = b.machine;
-    let painted = b.painted as u32 <= m.block_position(b.clock);
+    let painted = b.painted as u32;
     let pairs = b.pairs as u32;
-    match m.next_border_pixel(b.clock) {
-        BorderPlace::At { line, pixel } => {
-            painted & (pairs <= (320 * line + pixel) / 2) & !b.blocked
-        }
-        BorderPlace::FrameEnd => painted & (pairs <= 38400) & (!b.blocked | (pairs == 0)),
+    let reached = m.has_reached_block(painted, b.clock) & m.has_reached_pair(pairs, b.clock);
+    if b.blocked {
+        return reached & (m.frame_end(b.clock) & (pairs == 0));
     }
+    reached
 }
 
-// The cheap tests come first, the two positions only behind them.
+// The cheap tests come first, those of the places only behind them.
 fn sound_bus(b: Bus) -> bool
     ensures { λ r. ⌜ r ≡ soundBus b ⌝ }
 {

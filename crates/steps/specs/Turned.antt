@@ -1,11 +1,12 @@
 -- The turn that the code's record stands for, with the lent memory; and what a call under way asks for the steps that it still has to take.
 -- Assumes nothing.
-use Prim.Native.Nat.{ℕ, _+_, _*_, _%_, _^_, _<_}
+use Prim.Native.Nat.{ℕ, _+_, _*_, _%_, _^_, _<_, _≤_}
 use mathlib.Core.Bool.{false}
 use mathlib.Core.Path.{_≡_}
 use mathlib.Core.List.{List}
 use lib.ListN.{length}
 use Rattle.machine.specs.Numbers.{specsOf}
+use Rattle.machine.specs.Timing.{blockPosition}
 use Rattle.record.specs.declared.Bus.{Bus}
 use Rattle.border.specs.Edge.{Edge}
 use Rattle.memory.specs.Paging.{shownPage}
@@ -49,7 +50,7 @@ nextFrame bus clock =
     }
 
 -- What is asked before so many steps of so many clocks in all: memory of the machine's sizes, a phase below 32, the clock within the frame,
--- less than a frame to go, and room for the sums. `time` is the clocks since the start: a step adds its own to them, whether it closes a frame
+-- no block painted before its time, less than a frame to go, and room for the sums. `time` is the clocks since the start: a step adds its own to them, whether it closes a frame
 -- or not, so this one line says that the passed frames will fit.
 pub record Ready (t : Turn) (steps clocks : ℕ) : Type 0 where
   pub ramFits : length (t .world .core .ram) ≡ specsOf (t .machine) .ram
@@ -58,6 +59,7 @@ pub record Ready (t : Turn) (steps clocks : ℕ) : Type 0 where
   pub borderFits : length (t .world .edge .pixels) ≡ 76800
   pub phaseFits : t .world .core .phase < 32
   pub inFrame : t .world .core .clock < specsOf (t .machine) .frame
+  pub inPlace : t .world .screen .painted ≤ blockPosition (specsOf (t .machine)) (t .world .core .clock)
   pub short : clocks < specsOf (t .machine) .frame
   pub time : t .world .core .passed * specsOf (t .machine) .frame + t .world .core .clock + clocks < 2 ^ 32 * specsOf (t .machine) .frame
   pub clocksFit : t .clocks + clocks < 2 ^ 32

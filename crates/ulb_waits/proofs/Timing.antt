@@ -45,6 +45,7 @@ module _ (bus : Bus) (begun : Turning) (ram a b border : List ℕ) (starts : tur
         borderFits = f .borderIs;
         phaseFits = s .phase;
         inFrame = s .clock;
+        inPlace = s .painted;
         short = omega arith;
         time = time-fits (bus .machine) (bus .passed) (bus .clock) clocks room (s .clock) n;
         clocksFit = omega arith;

@@ -12,7 +12,7 @@ floating-bus-value-requires : tie.Need-floating-bus-value-requires
 floating-bus-value-requires c κs = search needs
 
 returns : tie.Need-returns
-returns c = search needs
+returns c = rw (c .before .answer .given .1)
 
 returns-2 : tie.Need-returns-2
 returns-2 c = rw (c .before .enum-told .given .1) (c .floating-bus-value .ensures)

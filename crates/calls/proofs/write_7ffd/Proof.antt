@@ -1,4 +1,4 @@
-use Rattle.contention.proofs.CodeCalls.{repaged-is}
+use Rattle.calls.proofs.CodePorts.{repaged-is}
 use mathlib.Core.Path.{_∙_, ap}
 use Rattle.memory.specs.Paging.{pagedCode}
 use borrow.Author.Needs.{needs}

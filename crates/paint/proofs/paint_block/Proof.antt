@@ -1,24 +1,13 @@
--- Eight stores one after the other are one run of stores (`eight`), and the table's entry is the line rule's offset.
+-- Eight stores one after the other are one run of stores (`eight`).
 -- Assumes nothing.
 use borrow.Author.Needs.{needs}
 use Prim.Native.Nat.{_*_}
 use native.Mathlib.Omega.{arith}
 use lib.ListN.{length-set}
-use Rattle.offsets.specs.Offset.{IsTable}
 use Rattle.screen.specs.Pixel.{blockOf}
 use Rattle.laws.proofs.Stores.{eight}
 use Rattle.paint.proofs.paint_block.Statement.{statement}
 use Rattle.paint.proofs.paint_block.Tie as tie
-
-mul-o : tie.Need-mul-o
-mul-o c = search needs
-
-element-copy-out-o : tie.Need-element-copy-out-o
-element-copy-out-o c = search needs
-
-cast-o : tie.Need-cast-o
-unfolding IsTable
-cast-o c = let s = c .before .before .before in omega (arith, s .pre .0 (s .args .k) (s .pre .1))
 
 mul-a : tie.Need-mul-a
 mul-a c = search needs
@@ -33,8 +22,7 @@ shared-slice-read-block : tie.Need-shared-slice-read-block
 shared-slice-read-block c = search needs
 
 shared-slice-read-block-2 : tie.Need-shared-slice-read-block-2
-unfolding IsTable
-shared-slice-read-block-2 c = let s = c .before .before .before .before .before in omega (arith, s .pre .0 (s .args .k) (s .pre .1))
+shared-slice-read-block-2 c = search needs
 
 block-requires : tie.Need-block-requires
 block-requires c κs = search needs
@@ -115,18 +103,15 @@ same-length : tie.Need-same-length
 same-length c = simp length-set
 
 returns : tie.Need-returns
-unfolding blockOf IsTable
+unfolding blockOf
 returns c =
-    let s = c .before .before .before .before .before .before in
-    rw (c .block .ensures, s .pre .0 (s .args .k) (s .pre .1)) (eight (s .args .picture .now) (8 * s .args .k) _ _ _ _ _ _ _ _)
+    let s = c .before .before .before .before .before in
+    rw (c .block .ensures, s .pre .1) (eight (s .args .picture .now) (8 * s .args .k) _ _ _ _ _ _ _ _)
 
 pub paint-block-spec : {M : Type 1} → statement M
 paint-block-spec =
     tie.close
     (tie.spec
-    mul-o
-    element-copy-out-o
-    cast-o
     mul-a
     add-a
     add-a-2

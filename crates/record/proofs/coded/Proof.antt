@@ -1,3 +1,4 @@
+use Rattle.record.proofs.Judged.{version-bytes}
 use borrow.Author.Needs.{needs}
 use Rattle.record.proofs.coded.Statement.{statement}
 use Rattle.record.proofs.coded.Tie as tie
@@ -11,17 +12,23 @@ shared-slice-read-result-2 c = search needs
 shared-slice-read-result-3 : tie.Need-shared-slice-read-result-3
 shared-slice-read-result-3 c = search needs
 
-word-at-requires : tie.Need-word-at-requires
-word-at-requires c κs = search needs
-
 shared-slice-read-result-4 : tie.Need-shared-slice-read-result-4
 shared-slice-read-result-4 c = search needs
+
+add-result : tie.Need-add-result
+add-result c = search needs
 
 shared-slice-read-result-5 : tie.Need-shared-slice-read-result-5
 shared-slice-read-result-5 c = search needs
 
+shared-slice-read-result-6 : tie.Need-shared-slice-read-result-6
+shared-slice-read-result-6 c = search needs
+
+shared-slice-read-result-7 : tie.Need-shared-slice-read-result-7
+shared-slice-read-result-7 c = search needs
+
 returns : tie.Need-returns
-returns c = rw (c .before .before .word-at .ensures)
+returns c = rw version-bytes
 
 pub coded-spec : {M : Type 1} → statement M
 coded-spec =
@@ -30,7 +37,9 @@ coded-spec =
     shared-slice-read-result
     shared-slice-read-result-2
     shared-slice-read-result-3
-    word-at-requires
     shared-slice-read-result-4
+    add-result
     shared-slice-read-result-5
+    shared-slice-read-result-6
+    shared-slice-read-result-7
     returns)

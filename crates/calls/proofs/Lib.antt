@@ -1,0 +1,2 @@
+pub mod CodeRuns
+pub mod CodePorts
