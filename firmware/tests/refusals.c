@@ -1,7 +1,7 @@
 /* Every refusal of every call of ulb.h, by tables: accepted at each limit and refused one past it; in the stated order where
  * two or more causes hold; the answer's bytes exact (the number and then zeros; untouched if its length is wrong); and no
- * other byte written. Each slice ends at a guard page, and what a call may not write is lent read-only, so that the archive
- * itself is watched. The table `gives` says which refusals a call has: one that was never tried is a failure too.
+ * other byte written. Each slice begins, and then ends, at a guard page, and what a call may not write is lent read-only, so that
+ * the archive itself is watched. The table `gives` says which refusals a call has: one that was never tried is a failure too.
  *
  *     refusals             last line `refusals: N cases, M failed`; exit status 1 if any failed
  *     refusals --wrong N   the same with mistake N (1 to 5) made on purpose: it has to fail */
@@ -78,6 +78,7 @@ static const struct { bool sound; unsigned machine, at, value; } bytes[] = {
 typedef struct { call c; uint8_t state[23], devices[35]; } attempt;
 
 static unsigned machine; /* whose lengths are right */
+static bool at_start;    /* of their zones stand the slices, or else at the end */
 static zone zones[SLICES];
 static uint8_t *before[SLICES];
 static bool tried[KINDS][9], length_tried[KINDS][SLICES][2];
@@ -125,8 +126,9 @@ static void check(const char *what, unsigned got, unsigned want) {
     if (got != want) failed(what, got, want);
 }
 
-/* A slice's bytes: at the end of its zone, before the guard page. */
-static uint8_t *own(const attempt *t, slice s) { return zones[s].rw + zones[s].size - t->c.length[s]; }
+/* Where a slice stands in its zone: behind the lower guard page, or before the upper one. */
+static size_t place(const attempt *t, slice s) { return at_start ? 0 : zones[s].size - t->c.length[s]; }
+static uint8_t *own(const attempt *t, slice s) { return zones[s].rw + place(t, s); }
 
 static void lay_out(const attempt *t, unsigned want, uint8_t *p[SLICES]) {
     memset(zones[STATE].rw, 0, zones[STATE].size);
@@ -136,7 +138,7 @@ static void lay_out(const attempt *t, unsigned want, uint8_t *p[SLICES]) {
     memcpy(own(t, DEVICES), t->devices, t->c.length[DEVICES] < 35 ? t->c.length[DEVICES] : 35);
     for (slice s = STATE; s < SLICES; s++) {
         bool writes = s == ANSWER ? t->c.length[s] == right(t->c.kind, s) : want == 0 && (shapes[t->c.kind].written >> s & 1);
-        p[s] = own(t, s) - zones[s].rw + (writes ? zones[s].rw : zones[s].ro);
+        p[s] = (writes ? zones[s].rw : zones[s].ro) + place(t, s);
         if (lends(t->c.kind, s)) memcpy(before[s], zones[s].rw, zones[s].size);
     }
 }
@@ -155,7 +157,7 @@ static void try_it(const attempt *t, unsigned want) {
     if (lends(k, ANSWER) && t->c.length[ANSWER] == right(k, ANSWER)) {
         check("answer byte 0", own(t, ANSWER)[0], want);
         for (unsigned i = 1; want != 0 && i < shapes[k].answer; i++) check("behind the answer's number", own(t, ANSWER)[i], 0);
-        memcpy(before[ANSWER] + zones[ANSWER].size - t->c.length[ANSWER], own(t, ANSWER), t->c.length[ANSWER]);
+        memcpy(before[ANSWER] + place(t, ANSWER), own(t, ANSWER), t->c.length[ANSWER]);
     }
     for (slice s = STATE; s < SLICES; s++)
         if (lends(k, s) && (want != 0 || !(shapes[k].written >> s & 1)))
@@ -295,7 +297,9 @@ int main(int argc, char **argv) {
         if (!before[s]) return 2;
     }
     for (call_kind k = START; k < KINDS; k++) {
-        for (machine = 0; machine < 2; machine++) {
+        for (unsigned turn = 0; turn < 4; turn++) {
+            machine = turn % 2;
+            at_start = turn < 2;
             attempt t = good(k);
             try_it(&t, 0);
             try_lengths(k);
