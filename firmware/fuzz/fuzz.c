@@ -6,14 +6,10 @@
  * refused, and a slice that a call may only read, gets the second, so that a write which should not be is a fault. Faults are
  * reported with the call. After an accepted call its answer and the record are compared; all memory is compared after every
  * EVERY calls (256 unless said). Last line: `fuzz: N calls, 0 differences`; exit status 1 at the first difference. */
-#define _GNU_SOURCE
-#include <signal.h>
 #include <stdio.h>
 #include <stdlib.h>
 #include <string.h>
-#include <sys/mman.h>
-#include <unistd.h>
-#include "reading.h"
+#include "lending.h"
 #include "ulb.h"
 
 /* ---- Random numbers: the same for a seed on every machine --------------------------------------------------------- */
@@ -39,10 +35,9 @@ static void describe(void) {
     printf("  seed %llu, call %lu: %s number %lu addr %04Xh value %02Xh, wanted %u\n  record", (unsigned long long)now.seed,
            now.number, shape->name, (unsigned long)now.c.number, now.c.addr, now.c.value, now.wanted);
     for (int i = 0; i < 23; i++) printf(" %02X", now.state[i]);
-    static const char *const names[SLICES] = {"state", "devices", "rom", "ram", "bytes", "picture", "a", "b", "border", "answer"};
     printf("\n  lengths");
     for (int s = 0; s < SLICES; s++)
-        if (shape->lent >> s & 1) printf(" %s %zu", names[s], now.c.length[s]);
+        if (shape->lent >> s & 1) printf(" %s %zu", slice_names[s], now.c.length[s]);
     printf("\n");
 }
 
@@ -52,44 +47,14 @@ static void differs(const char *what, unsigned long got, unsigned long want) {
     exit(1);
 }
 
-static void fault(int signal, siginfo_t *info, void *context) {
-    (void)signal;
-    (void)context;
-    printf("fuzz: DIFFERENCE: a fault at %p: outside a slice, or a write where none may be\n", info->si_addr);
+static void fault(const void *where) {
+    printf("fuzz: DIFFERENCE: a fault at %p: outside a slice, or a write where none may be\n", where);
     describe();
-    fflush(stdout);
-    _exit(1);
 }
 
 /* ---- Guarded memory ------------------------------------------------------------------------------------------------- */
 
-enum { PAGE = 4096, LONGEST = 196608 };
-
-/* `size` bytes of whole pages, seen twice, between guard pages. */
-typedef struct { uint8_t *rw, *ro; size_t size; } zone;
-
-static uint8_t *map_between(int file, size_t size, int rights) {
-    uint8_t *room = mmap(NULL, size + 2 * PAGE, PROT_NONE, MAP_PRIVATE | MAP_ANONYMOUS, -1, 0);
-    if (room == MAP_FAILED || mmap(room + PAGE, size, rights, MAP_SHARED | MAP_FIXED, file, 0) == MAP_FAILED) {
-        perror("fuzz: mmap");
-        exit(2);
-    }
-    return room + PAGE;
-}
-
-static zone make_zone(size_t bytes) {
-    zone z;
-    z.size = (bytes + PAGE - 1) / PAGE * PAGE;
-    int file = memfd_create("zone", 0);
-    if (file < 0 || ftruncate(file, (off_t)z.size) != 0) {
-        perror("fuzz: memfd");
-        exit(2);
-    }
-    z.rw = map_between(file, z.size, PROT_READ | PROT_WRITE);
-    z.ro = map_between(file, z.size, PROT_READ);
-    close(file);
-    return z;
-}
+enum { LONGEST = 196608 };
 
 /* For each slice the zone of its right length (ROM and RAM: by machine), and one for wrong lengths, only ever lent to read. */
 static zone home[2][SLICES], spare[SLICES];
@@ -327,41 +292,6 @@ static void lend_record(uint8_t bytes[23]) {
     }
 }
 
-/* ---- The call itself -------------------------------------------------------------------------------------------------- */
-
-static uint8_t make_call(const call *c, uint8_t *p[SLICES]) {
-#define S(s) p[s], c->length[s]
-#define LENT S(RAM), S(A), S(B), S(BORDER)
-    switch (c->kind) {
-        case START: return ulb_start(S(STATE), LENT, c->number);
-        case WAIT_INTERNAL: return ulb_wait_internal(S(STATE), LENT, c->number, S(ANSWER));
-        case WAIT_MREQ: return ulb_wait_mreq(S(STATE), LENT, c->addr, c->number, S(ANSWER));
-        case WAIT_NO_MREQ: return ulb_wait_no_mreq(S(STATE), LENT, c->addr, c->number, S(ANSWER));
-        case READ_IO: return ulb_read_io(S(STATE), S(DEVICES), LENT, c->addr, S(ANSWER));
-        case WRITE_IO: return ulb_write_io(S(STATE), S(DEVICES), LENT, c->addr, c->value, S(ANSWER));
-        case READ_INTERNAL: return ulb_read_internal(S(STATE), S(ROM), S(RAM), c->addr, S(ANSWER));
-        case WRITE_INTERNAL: return ulb_write_internal(S(STATE), S(RAM), c->addr, c->value);
-        case WRITE_7FFD: return ulb_write_7ffd(S(STATE), c->value, S(ANSWER));
-        case READ_7FFD: return ulb_read_7ffd(S(STATE), S(ANSWER));
-        case INT_ACTIVE: return ulb_int_active(S(STATE), S(ANSWER));
-        case FRAMES_COUNT: return ulb_frames_count(S(STATE), S(ANSWER));
-        case RESET_FRAME_COUNTER: return ulb_reset_frame_counter(S(STATE));
-        case LOAD_PAGE: return ulb_load_page(S(STATE), S(RAM), S(BYTES), c->number);
-        case RAM_PAGE: return ulb_ram_page(S(STATE), S(RAM), c->number, S(ANSWER));
-        case BLOCK: return ulb_block(S(STATE), S(ROM), S(RAM), c->number, S(ANSWER));
-        case SHOWN_PICTURE: return ulb_shown_picture(S(STATE), S(A), S(B), S(ANSWER));
-        case STILL_PICTURE: return ulb_still_picture(S(STATE), S(RAM), S(PICTURE), c->number);
-        case BITMAP_LINE_ADDR: return ulb_bitmap_line_addr(c->number, S(ANSWER));
-        case BITMAP_LINE_REL: return ulb_bitmap_line_rel(c->number, S(ANSWER));
-        case BITMAP_COL_REL: return ulb_bitmap_col_rel(c->number, S(ANSWER));
-        case ATTR_ROW_REL: return ulb_attr_row_rel(c->number, S(ANSWER));
-        case ATTR_COL_REL: return ulb_attr_col_rel(c->number, S(ANSWER));
-        default: return ulb_color_from_bits(c->number, S(ANSWER));
-    }
-#undef LENT
-#undef S
-}
-
 static void check_answer(const call *c, const uint8_t *got, const uint8_t *want) {
     static const char *const timed[10] = {"refusal", "value", "closed", "interrupt", "clocks", "clocks", "clocks", "clocks",
                                           "blocks", "blocks"};
@@ -444,16 +374,11 @@ int main(int argc, char **argv) {
     unsigned long calls = argc > 1 ? strtoul(argv[1], NULL, 10) : 20000;
     now.seed = argc > 2 ? strtoull(argv[2], NULL, 10) : 1;
     unsigned long every = argc > 3 ? strtoul(argv[3], NULL, 10) : 256;
-    if (calls == 0 || every == 0 || sysconf(_SC_PAGESIZE) != PAGE) {
-        fprintf(stderr, "fuzz: usage: fuzz CALLS SEED EVERY, on pages of %d bytes\n", PAGE);
+    if (calls == 0 || every == 0) {
+        fprintf(stderr, "fuzz: usage: fuzz CALLS SEED EVERY\n");
         return 2;
     }
-    struct sigaction act;
-    memset(&act, 0, sizeof act);
-    act.sa_sigaction = fault;
-    act.sa_flags = SA_SIGINFO;
-    sigaction(SIGSEGV, &act, NULL);
-    sigaction(SIGBUS, &act, NULL);
+    on_fault(fault);
     dice = now.seed;
     make_zones();
     for (now.number = 0; now.number < calls; now.number++) {
