@@ -1,7 +1,7 @@
--- One bit of a number under a mask, as the number stands and turned over.
+-- One bit of a number under a mask, and of a byte turned over.
 -- Assumes nothing.
-use mathlib.Core.Path.{_≡_, refl, sym, ap, _∙_}
-use mathlib.Core.Bool.{Bool, not}
+use mathlib.Core.Path.{_≡_, refl}
+use mathlib.Core.Bool.{not}
 use Prim.Native.Nat.{ℕ, zero, suc, _+_, _-_, _*_, _/_, _%_, _^_, _<_}
 use native.Mathlib.Nat.{pow-suc, zero-mul, one-mul}
 use lib.Pow.{pow-pos}
@@ -28,14 +28,13 @@ masked n k =
 pub mask-bit : (k n : ℕ) → eqb (bitAnd n (2 ^ k)) 0 ≡ not (bit k n)
 mask-bit k n = rw (masked n k) (digit (n / 2 ^ k % 2) (2 ^ k) (omega arith) (pow-pos k))
 
-over : (x : ℕ) → x < 2 → not (eqb (bitXor x 1) 1) ≡ eqb x 1
+over : (x : ℕ) → x < 2 → eqb (bitXor x 1) 1 ≡ not (eqb x 1)
 over zero h = refl
 over (suc zero) h = refl
 over (suc (suc x)) h = absurd (omega arith)
 
--- the same of a byte that is turned over: where bit k is 1
-pub mask-over : (k n : ℕ) → k < 8 → eqb (bitAnd (bitXor n 255) (2 ^ k)) 0 ≡ bit k n
-mask-over k n h =
+-- a byte that is turned over has the other bit at each place
+pub bit-over : (k n : ℕ) → k < 8 → bit k (bitXor n 255) ≡ not (bit k n)
+bit-over k n h =
     let one : 255 / 2 ^ k % 2 ≡ 1 = same (λ j. 255 / 2 ^ j % 2) (λ j. 1) 8 tt k h in
-    mask-bit k (bitXor n 255)
-    ∙ rw (xor-shr n 255 k, xor-mod (n / 2 ^ k) (255 / 2 ^ k) 1, one) (over (n / 2 ^ k % 2) (omega arith))
+    rw (xor-shr n 255 k, xor-mod (n / 2 ^ k) (255 / 2 ^ k) 1, one) (over (n / 2 ^ k % 2) (omega arith))

@@ -1,4 +1,5 @@
 pub mod Address
 pub mod Color
 pub mod Pixel
+pub mod Packed
 pub mod Pages

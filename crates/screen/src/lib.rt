@@ -1,13 +1,13 @@
 // What it is: the screen of the ULA: the five address helpers, colours and attributes, and the pixel rule. Crate `paint` paints with it.
 // What it promises: each helper answers for every number, in range or not; the eight pixels of a block are what the pixel rule gives for its two bytes.
-// Where its definitions stand: specs/Address.antt (helpers), specs/Color.antt (colours, attributes), specs/Pixel.antt (the pixel rule).
+// Where its definitions stand: specs/Address.antt (helpers), specs/Color.antt (colours, attributes), specs/Pixel.antt (the pixel rule), specs/Packed.antt (eight pixels in one number).
 ghost use mathlib.Core.Path.{_≡_};
 ghost use mathlib.Core.Bool.{cond, _&&_};
-ghost use lib.Bits.{bitAnd, bitXor};
-ghost use lib.Dec.{eqb};
+ghost use lib.Bits.{bitXor};
 ghost use Rattle.screen.specs.Address.{lineAddress, lineAt, columnAt, attributeRow, attributeColumn};
 ghost use Rattle.screen.specs.Color.{bit, colorOf, fromBits, colorNumber, brightnessOf, attributeOf, activeColor};
 ghost use Rattle.screen.specs.Pixel.{inkOf, paperOf, blockOf, pixelByte};
+ghost use Rattle.screen.specs.Packed.{bitsOf, packed, bytesOf};
 
 // What an address helper answers: a number, or that the number it was given is outside its range (refusal 8).
 pub enum Helped {
@@ -229,28 +229,46 @@ fn lit(attr: u8, bitmap: u8, flash: bool) -> u8
     bitmap
 }
 
-// The pixel at the bit of a mask.
-fn shade(bits: u8, mask: u8, ink: u8, paper: u8) -> u8
-    ensures { λ r. ⌜ r ≡ cond (eqb (bitAnd bits mask) 0) paper ink ⌝ }
+// The bits of a byte, each in a byte of its own, the highest in the lowest. A copy moved up by 9 k bits has bit 7 - k at the top of byte k,
+// and eight such copies do not meet: seven by the product, the last by the shift, which keeps only its lowest bit.
+fn spread(byte: u8) -> u64
+    ensures { λ r. ⌜ r ≡ packed 1 0 (bitsOf byte) ⌝ }
 {
-    if bits & mask == 0 { paper } else { ink }
+    let b = byte as u64;
+    (b * 0x0040201008040201 + (b << 63)) >> 7 & 0x0101010101010101
 }
 
-// The eight pixels of a block.
+// The eight bytes of a number, the lowest first.
+fn bytes(w: u64) -> [u8; 8]
+    ensures { λ r. ⌜ r ≡ bytesOf 8 w ⌝ }
+{
+    let w1 = w >> 8;
+    let w2 = w1 >> 8;
+    let w3 = w2 >> 8;
+    let w4 = w3 >> 8;
+    let w5 = w4 >> 8;
+    let w6 = w5 >> 8;
+    let w7 = w6 >> 8;
+    [
+        (w % 256) as u8,
+        (w1 % 256) as u8,
+        (w2 % 256) as u8,
+        (w3 % 256) as u8,
+        (w4 % 256) as u8,
+        (w5 % 256) as u8,
+        (w6 % 256) as u8,
+        (w7 % 256) as u8,
+    ]
+}
+
+// The eight pixels of a block, in one number: a product puts ink into the bytes of the bits that show it, another paper into the rest.
 pub fn block(attr: u8, bitmap: u8, flash: bool) -> [u8; 8]
     ensures { λ r. ⌜ r ≡ blockOf attr bitmap flash ⌝ }
 {
     let i = ink(attr);
     let p = paper(attr);
     let b = lit(attr, bitmap, flash);
-    [
-        shade(b, 128, i, p),
-        shade(b, 64, i, p),
-        shade(b, 32, i, p),
-        shade(b, 16, i, p),
-        shade(b, 8, i, p),
-        shade(b, 4, i, p),
-        shade(b, 2, i, p),
-        shade(b, 1, i, p),
-    ]
+    let m = spread(b);
+    let w = m * (i as u64) + (0x0101010101010101 - m) * (p as u64);
+    bytes(w)
 }

@@ -1,9 +1,8 @@
--- Each of the eight masks shows the pixel that the rule gives at its bit (`shown`).
+-- The laws of packed numbers, at the code's own mask, ink and paper.
 -- Assumes nothing.
-use lib.Dec.{lit<}
-use Rattle.screen.specs.Pixel.{blockOf}
-use Rattle.screen.proofs.Shown.{shown}
 use borrow.Author.Needs.{needs}
+use Rattle.screen.proofs.Shown.{block-bytes}
+use Rattle.screen.proofs.Packed.{mask-le, ink-lt, paper-lt, mixed-lt}
 use Rattle.screen.proofs.block.Statement.{statement}
 use Rattle.screen.proofs.block.Tie as tie
 
@@ -16,36 +15,32 @@ paper-requires c κs = search needs
 lit-requires : tie.Need-lit-requires
 lit-requires c κs = search needs
 
-shade-requires : tie.Need-shade-requires
-shade-requires c κs = search needs
+spread-requires : tie.Need-spread-requires
+spread-requires c κs = search needs
 
-shade-requires-2 : tie.Need-shade-requires-2
-shade-requires-2 c κs = search needs
+cast-w : tie.Need-cast-w
+cast-w c = search needs
 
-shade-requires-3 : tie.Need-shade-requires-3
-shade-requires-3 c κs = search needs
+mul-w : tie.Need-mul-w
+mul-w c = search (ink-lt, needs)
 
-shade-requires-4 : tie.Need-shade-requires-4
-shade-requires-4 c κs = search needs
+sub-w : tie.Need-sub-w
+sub-w c = search (mask-le, needs)
 
-shade-requires-5 : tie.Need-shade-requires-5
-shade-requires-5 c κs = search needs
+cast-w-2 : tie.Need-cast-w-2
+cast-w-2 c = search needs
 
-shade-requires-6 : tie.Need-shade-requires-6
-shade-requires-6 c κs = search needs
+mul-w-2 : tie.Need-mul-w-2
+mul-w-2 c = search (paper-lt, needs)
 
-shade-requires-7 : tie.Need-shade-requires-7
-shade-requires-7 c κs = search needs
+add-w : tie.Need-add-w
+add-w c = search (mixed-lt, needs)
 
-shade-requires-8 : tie.Need-shade-requires-8
-shade-requires-8 c κs = search needs
+bytes-requires : tie.Need-bytes-requires
+bytes-requires c κs = search needs
 
 returns : tie.Need-returns
-unfolding blockOf
-returns c =
-    let s = c .before .before .before .before .before .before .before .before .before .before .before in
-    let sees = shown (s .args .attr) (s .args .bitmap) (s .args .flash) in
-    cc (sees 0 (lit< tt), sees 1 (lit< tt), sees 2 (lit< tt), sees 3 (lit< tt), sees 4 (lit< tt), sees 5 (lit< tt), sees 6 (lit< tt), sees 7 (lit< tt))
+returns c = search (block-bytes, needs)
 
 pub block-spec : {M : Type 1} → statement M
 block-spec =
@@ -54,12 +49,12 @@ block-spec =
     ink-requires
     paper-requires
     lit-requires
-    shade-requires
-    shade-requires-2
-    shade-requires-3
-    shade-requires-4
-    shade-requires-5
-    shade-requires-6
-    shade-requires-7
-    shade-requires-8
+    spread-requires
+    cast-w
+    mul-w
+    sub-w
+    cast-w-2
+    mul-w-2
+    add-w
+    bytes-requires
     returns)
