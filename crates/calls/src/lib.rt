@@ -83,7 +83,7 @@ pub fn read_io(
     b: &mut [u8],
     border: &mut [u8],
 ) -> ReadTurn
-    requires { ⌜ Ready (turnOf t (now ram) (now a) (now b) (now border)) 1 28 ⌝ }
+    requires { ⌜ Ready (turnOf t (now ram) (now a) (now b) (now border)) 2 28 ⌝ }
     ensures { λ r. ⌜ (turnOf (r .turn) (now (ram .entry)) (now (a .exit)) (now (b .exit)) (now (border .exit))
         ≡ ranBy (portRead (t .bus .machine) port) (turnOf t (now (ram .entry)) (now (a .entry)) (now (b .entry)) (now (border .entry))))
         × (r .value ≡ readValue (t .bus .machine) devices port (coreOf (t .bus) (now (ram .entry)))) ⌝ }

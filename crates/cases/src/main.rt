@@ -18,10 +18,10 @@ fn pixels(
     border: &mut [u8; 76800],
 ) {
     let mut answer = [0u8; 10];
-    ulb_waits::ulb_start(state, ram, a, b, border, 0);
-    ulb_memory::ulb_write_internal(state, ram, 0x4000, 0x80);
-    ulb_memory::ulb_write_internal(state, ram, 0x5800, 0x47);
-    ulb_waits::ulb_wait_internal(state, ram, a, b, border, 14338, &mut answer);
+    ulb_start::ulb_start(state, ram, a, b, border, 0);
+    ulb_write_internal::ulb_write_internal(state, ram, 0x4000, 0x80);
+    ulb_write_internal::ulb_write_internal(state, ram, 0x5800, 0x47);
+    ulb_wait_internal::ulb_wait_internal(state, ram, a, b, border, 14338, &mut answer);
     say(b"attribute 47h, bit set: pixel ", b[0]);
     say(b"attribute 47h, bit clear: pixel ", b[1]);
 }
@@ -37,10 +37,10 @@ fn port(
     let mut answer = [0u8; 10];
     let mut devices = [0u8; 35];
     devices[24] = 1;
-    ulb_ports::ulb_read_io(state, &devices, ram, a, b, border, 0xFFFE, &mut answer);
+    ulb_read_io::ulb_read_io(state, &devices, ram, a, b, border, 0xFFFE, &mut answer);
     say(b"port FFFEh, tape bit 1: ", answer[1]);
     devices[24] = 0;
-    ulb_ports::ulb_read_io(state, &devices, ram, a, b, border, 0xFFFE, &mut answer);
+    ulb_read_io::ulb_read_io(state, &devices, ram, a, b, border, 0xFFFE, &mut answer);
     say(b"port FFFEh, tape bit 0: ", answer[1]);
 }
 
@@ -53,15 +53,15 @@ fn waits(
     border: &mut [u8; 76800],
 ) {
     let mut answer = [0u8; 10];
-    ulb_waits::ulb_start(state, ram, a, b, border, 0);
-    let long = ulb_waits::ulb_wait_internal(state, ram, a, b, border, 65535, &mut answer);
+    ulb_start::ulb_start(state, ram, a, b, border, 0);
+    let long = ulb_wait_internal::ulb_wait_internal(state, ram, a, b, border, 65535, &mut answer);
     say(b"wait 65,535: refusal ", long);
-    let longer = ulb_waits::ulb_wait_internal(state, ram, a, b, border, 65536, &mut answer);
+    let longer = ulb_wait_internal::ulb_wait_internal(state, ram, a, b, border, 65536, &mut answer);
     say(b"wait 65,536: refusal ", longer);
-    ulb_waits::ulb_wait_internal(state, ram, a, b, border, 4352, &mut answer);
-    ulb_waits::ulb_wait_internal(state, ram, a, b, border, 0, &mut answer);
+    ulb_wait_internal::ulb_wait_internal(state, ram, a, b, border, 4352, &mut answer);
+    ulb_wait_internal::ulb_wait_internal(state, ram, a, b, border, 0, &mut answer);
     say(b"clock 69,887 plus 0: closed ", answer[2]);
-    ulb_waits::ulb_wait_internal(state, ram, a, b, border, 1, &mut answer);
+    ulb_wait_internal::ulb_wait_internal(state, ram, a, b, border, 1, &mut answer);
     say(b"clock 69,887 plus 1: closed ", answer[2]);
 }
 

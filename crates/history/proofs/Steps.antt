@@ -19,14 +19,14 @@ use Rattle.record.specs.Record.{machineOf}
 use Rattle.bus.specs.World.{started}
 use Rattle.contracts.specs.Timed.{Lent, lent, lentBy, Outcome, outcome, Started, startLeaves, start, waitInternal, waitAt, readIo, writeIo}
 use Rattle.contracts.specs.Plain.{Told, told, Changed, changed, Repaged, repaged, readInternal, writeInternal, write7ffdCall, read7ffd, intActive, framesCount, resetFrames, loadPage, stillPicture, ramPageTold, blockTold, shownTold}
-use Rattle.ulb_waits.proofs.ulb_start.Reads as ulb-start
-use Rattle.ulb_waits.proofs.ulb_wait_internal.Reads as ulb-wait-internal
-use Rattle.ulb_waits.proofs.ulb_wait_mreq.Reads as ulb-wait-mreq
-use Rattle.ulb_waits.proofs.ulb_wait_no_mreq.Reads as ulb-wait-no-mreq
-use Rattle.ulb_ports.proofs.ulb_read_io.Reads as ulb-read-io
-use Rattle.ulb_ports.proofs.ulb_write_io.Reads as ulb-write-io
+use Rattle.ulb_start.proofs.ulb_start.Reads as ulb-start
+use Rattle.ulb_wait_internal.proofs.ulb_wait_internal.Reads as ulb-wait-internal
+use Rattle.ulb_wait_mreq.proofs.ulb_wait_mreq.Reads as ulb-wait-mreq
+use Rattle.ulb_wait_no_mreq.proofs.ulb_wait_no_mreq.Reads as ulb-wait-no-mreq
+use Rattle.ulb_read_io.proofs.ulb_read_io.Reads as ulb-read-io
+use Rattle.ulb_write_io.proofs.ulb_write_io.Reads as ulb-write-io
 use Rattle.ulb_memory.proofs.ulb_read_internal.Reads as ulb-read-internal
-use Rattle.ulb_memory.proofs.ulb_write_internal.Reads as ulb-write-internal
+use Rattle.ulb_write_internal.proofs.ulb_write_internal.Reads as ulb-write-internal
 use Rattle.ulb_memory.proofs.ulb_load_page.Reads as ulb-load-page
 use Rattle.ulb_memory.proofs.ulb_ram_page.Reads as ulb-ram-page
 use Rattle.ulb_memory.proofs.ulb_block.Reads as ulb-block

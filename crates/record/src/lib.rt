@@ -5,7 +5,7 @@ ghost use mathlib.Core.Path.{_≡_};
 ghost use Prim.Native.Nat.{_+_, _≤_};
 ghost use lib.ListN.{length};
 ghost use mathlib.Core.Bool.{_&&_};
-ghost use Rattle.record.specs.Words.{le16, le32, wordAt, longAt, Bytes};
+ghost use Rattle.record.specs.Words.{le16, le32, wordAt, longAt};
 ghost use Rattle.record.specs.Record.{recordLength, machineNumber, machineOf, flagByte, recordOf, recordBytes, advanced, marked, codesInRange, inRange, paintedInPlace, pairsInPlace, blockedAtEnd, pagingAllowed, soundBus, heldBy, startRecord};
 use machine::ZXMachine;
 
@@ -177,15 +177,6 @@ pub fn encode(dst: &mut [u8], b: Bus)
 {
     let all = bytes(b);
     bytes::copy(&all, dst);
-}
-
-// What a slice of bytes holds are bytes. It does nothing, and tells proofs what the type says.
-pub fn are_bytes(s: &[u8])
-    ensures { λ _. ⌜ Bytes (now (s .entry)) ⌝ }
-{
-    if 0 < s.len() {
-        let _first = s[0];
-    }
 }
 
 // Clock and painted blocks alone, into the bytes of a record that keeps the rest.

@@ -16,7 +16,7 @@ fn start(
     border: &mut [u8],
 ) {
     script::no_devices(devices, call.x);
-    script::say_done(ulb_waits::ulb_start(state, ram, a, b, border, call.z));
+    script::say_done(ulb_start::ulb_start(state, ram, a, b, border, call.z));
 }
 
 // A timed call: its refusal.
@@ -31,15 +31,15 @@ fn timed(
     answer: &mut [u8],
 ) -> u8 {
     if call.op == b'N' {
-        ulb_waits::ulb_wait_internal(state, ram, a, b, border, call.z, answer)
+        ulb_wait_internal::ulb_wait_internal(state, ram, a, b, border, call.z, answer)
     } else if call.op == b'M' {
-        ulb_waits::ulb_wait_mreq(state, ram, a, b, border, call.y, call.z, answer)
+        ulb_wait_mreq::ulb_wait_mreq(state, ram, a, b, border, call.y, call.z, answer)
     } else if call.op == b'O' {
-        ulb_waits::ulb_wait_no_mreq(state, ram, a, b, border, call.y, call.z, answer)
+        ulb_wait_no_mreq::ulb_wait_no_mreq(state, ram, a, b, border, call.y, call.z, answer)
     } else if call.op == b'I' {
-        ulb_ports::ulb_read_io(state, devices, ram, a, b, border, call.y, answer)
+        ulb_read_io::ulb_read_io(state, devices, ram, a, b, border, call.y, answer)
     } else {
-        ulb_ports::ulb_write_io(state, devices, ram, a, b, border, call.y, call.x, answer)
+        ulb_write_io::ulb_write_io(state, devices, ram, a, b, border, call.y, call.x, answer)
     }
 }
 
@@ -159,7 +159,12 @@ fn change(
     let op = call.op;
     match op {
         b'D' => script::set_device(call, devices),
-        b'P' => script::say_done(ulb_memory::ulb_write_internal(state, ram, call.y, call.x)),
+        b'P' => script::say_done(ulb_write_internal::ulb_write_internal(
+            state,
+            ram,
+            call.y,
+            call.x,
+        )),
         b'7' => write_7ffd(call, state),
         b'Z' => script::say_done(ulb_state::ulb_reset_frame_counter(state)),
         b'L' => load_page(call, state, ram, spare),

@@ -10,9 +10,6 @@ use Rattle.contracts.proofs.Determined.{changed-equal, equal, told-equal}
 use Rattle.ulb_memory.proofs.ulb_read_internal as ulb-read-internal
 use Rattle.ulb_memory.proofs.ulb_read_internal.Kinds as ulb-read-internal-kinds
 use Rattle.ulb_memory.proofs.ulb_read_internal.Reads as ulb-read-internal-contract
-use Rattle.ulb_memory.proofs.ulb_write_internal as ulb-write-internal
-use Rattle.ulb_memory.proofs.ulb_write_internal.Kinds as ulb-write-internal-kinds
-use Rattle.ulb_memory.proofs.ulb_write_internal.Reads as ulb-write-internal-contract
 use Rattle.ulb_memory.proofs.ulb_load_page as ulb-load-page
 use Rattle.ulb_memory.proofs.ulb_load_page.Kinds as ulb-load-page-kinds
 use Rattle.ulb_memory.proofs.ulb_load_page.Reads as ulb-load-page-contract
@@ -34,12 +31,6 @@ pub ulb-read-internal-determined : (κs : Lfts 4) (a : ArgsD ulb-read-internal.s
     → ulb-read-internal-contract.Post κs a r s → ulb-read-internal-contract.Post κs a r′ s′
     → (r ≡ r′) × (now (s .1 .1 .1 .1 .0) ≡ now (s′ .1 .1 .1 .1 .0))
 ulb-read-internal-determined κs a r r′ s s′ p q = told-equal _ r r′ (now (s .1 .1 .1 .1 .0)) (now (s′ .1 .1 .1 .1 .0)) p q
-
-pub ulb-write-internal-determined : (κs : Lfts 2) (a : ArgsD ulb-write-internal.signature κs) (r r′ : ResD ulb-write-internal.signature κs)
-    (s s′ : AtExit (endedOf 2 ulb-write-internal-kinds.ps ulb-write-internal-kinds.r) κs)
-    → ulb-write-internal-contract.Post κs a r s → ulb-write-internal-contract.Post κs a r′ s′
-    → (r ≡ r′) × (now (s .1 .0) ≡ now (s′ .1 .0))
-ulb-write-internal-determined κs a r r′ s s′ p q = changed-equal _ r r′ (now (s .1 .0)) (now (s′ .1 .0)) p q
 
 pub ulb-load-page-determined : (κs : Lfts 3) (a : ArgsD ulb-load-page.signature κs) (r r′ : ResD ulb-load-page.signature κs)
     (s s′ : AtExit (endedOf 3 ulb-load-page-kinds.ps ulb-load-page-kinds.r) κs)

@@ -1,8 +1,8 @@
-// What it is: memory at the C surface: byte read and write, page load, and the RAM page or block handed back, as a part to Rattle and by its start to C.
+// What it is: memory at the C surface: byte read, page load, and the RAM page or block handed back, as a part to Rattle and by its start to C.
 // What it promises: each call accepts all bytes and numbers; what it returns, and every slice that it was lent at exit, is its definition of the slices at entry and the numbers.
 // Where its definitions stand: crate contracts, specs/Plain.antt.
 ghost use mathlib.Core.Path.{_≡_};
-ghost use Rattle.contracts.specs.Plain.{told, changed, readInternal, writeInternal, loadPage, ramPageTold, blockTold, ramPagePart, blockPart};
+ghost use Rattle.contracts.specs.Plain.{told, changed, readInternal, loadPage, ramPageTold, blockTold, ramPagePart, blockPart};
 use answers::Verdict;
 use memory::Page;
 
@@ -24,22 +24,6 @@ pub extern "C" fn ulb_read_internal(
             let m = bus.machine;
             let value = memory::read(m, bus.paging, rom, ram, addr);
             answers::fill_number(answer, value as u32);
-            0
-        }
-    }
-}
-
-// Byte write.
-#[no_mangle]
-pub extern "C" fn ulb_write_internal(state: &[u8], ram: &mut [u8], addr: u16, value: u8) -> u8
-    ensures { λ r. ⌜ changed r (now (ram .exit)) ≡ writeInternal (now (state .entry)) (now (ram .entry)) addr value ⌝ }
-{
-    let v = answers::judge_write(state, ram.len());
-    match v {
-        Verdict::Refused(e) => answers::number(e),
-        Verdict::Accepted(bus) => {
-            let m = bus.machine;
-            memory::write(m, bus.paging, ram, addr, value);
             0
         }
     }

@@ -19,7 +19,7 @@ add-read-value : tie.Need-add-read-value
 add-read-value c =
     let g = c .before .before .before .before .before .before .before .before .args in
     let t = turnOf (g .t) (now (g .ram)) (now (g .a)) (now (g .b)) (now (g .border)) in
-    omega (arith, parts-few t (g .port) _ 1 (c .before .before .part-clocks .ensures) (c .before .before .before .before .before .before .before .before .pre), (c .before .before .before .before .before .before .before .before .pre) .inFrame, regular (g .t .bus .machine) .short)
+    omega (arith, parts-few t (g .port) _ 2 (c .before .before .part-clocks .ensures) (c .before .before .before .before .before .before .before .before .pre), (c .before .before .before .before .before .before .before .before .pre) .inFrame, regular (g .t .bus .machine) .short)
 
 read-value-requires : tie.Need-read-value-requires
 read-value-requires c κs = search needs
@@ -28,13 +28,13 @@ add-wait-internal : tie.Need-add-wait-internal
 add-wait-internal c =
     let g = c .before .before .before .before .before .before .before .before .before .args in
     let t = turnOf (g .t) (now (g .ram)) (now (g .a)) (now (g .b)) (now (g .border)) in
-    omega (arith, parts-few t (g .port) _ 1 (c .before .before .before .part-clocks .ensures) (c .before .before .before .before .before .before .before .before .before .pre), (c .before .before .before .before .before .before .before .before .before .pre) .inFrame, regular (g .t .bus .machine) .short)
+    omega (arith, parts-few t (g .port) _ 2 (c .before .before .before .part-clocks .ensures) (c .before .before .before .before .before .before .before .before .before .pre), (c .before .before .before .before .before .before .before .before .before .pre) .inFrame, regular (g .t .bus .machine) .short)
 
 wait-internal-requires : tie.Need-wait-internal-requires
 wait-internal-requires c κs =
     let g = c .before .before .before .before .before .before .before .before .before .before .before .before .args in
     let t = turnOf (g .t) (now (g .ram)) (now (g .a)) (now (g .b)) (now (g .border)) in
-    parts-ready t (g .port) _ 1 (c .before .before .before .before .before .before .part-clocks .ensures) (c .before .before .before .before .before .before .before .before .before .before .before .before .pre) (omega arith)
+    parts-ready t (g .port) _ 2 (c .before .before .before .before .before .before .part-clocks .ensures) (c .before .before .before .before .before .before .before .before .before .before .before .before .pre) (omega arith)
 
 same-length : tie.Need-same-length
 same-length c = search needs
@@ -49,8 +49,8 @@ returns : tie.Need-returns
 returns c =
     let g = c .before .before .before .before .before .before .before .before .before .before .before .before .before .before .before .before .before .before .before .args in
     let t = turnOf (g .t) (now (g .ram)) (now (g .a)) (now (g .b)) (now (g .border)) in (
-      read-turn t (g .port) _ 1 (c .before .before .before .before .before .before .before .before .before .before .before .before .before .part-clocks .ensures) (c .before .before .before .before .before .before .before .before .before .before .before .before .before .before .before .before .before .before .before .pre) _ (c .before .before .before .before .before .before .wait-internal .ensures),
-      read-taken t (g .port) _ 1 (c .before .before .before .before .before .before .before .before .before .before .before .before .before .part-clocks .ensures) (c .before .before .before .before .before .before .before .before .before .before .before .before .before .before .before .before .before .before .before .pre) (g .devices) _ _ (c .before .before .before .before .before .before .before .before .before .before .before .before .read-port .ensures) (c .before .before .before .before .before .before .before .before .before .before .read-value .ensures),
+      read-turn t (g .port) _ 2 (c .before .before .before .before .before .before .before .before .before .before .before .before .before .part-clocks .ensures) (c .before .before .before .before .before .before .before .before .before .before .before .before .before .before .before .before .before .before .before .pre) _ (c .before .before .before .before .before .before .wait-internal .ensures),
+      read-taken t (g .port) _ 2 (c .before .before .before .before .before .before .before .before .before .before .before .before .before .part-clocks .ensures) (c .before .before .before .before .before .before .before .before .before .before .before .before .before .before .before .before .before .before .before .pre) (g .devices) _ _ (c .before .before .before .before .before .before .before .before .before .before .before .before .read-port .ensures) (c .before .before .before .before .before .before .before .before .before .before .read-value .ensures),
     )
 
 pub read-io-spec : {M : Type 1} → statement M

@@ -1,0 +1,44 @@
+// What it is: the port read at the C surface: ulb_read_io. It stands alone so that the compiler lays it out whole (docs/DECISIONS.md, 3).
+// What it promises: the call accepts all bytes and numbers; what it returns, and every slice that it was lent at exit, is its definition of the slices at entry and the numbers.
+// Where its definitions stand: crate contracts, specs/Timed.antt.
+ghost use mathlib.Core.Path.{_≡_};
+ghost use Rattle.contracts.specs.Timed.{lent, outcome, readIo};
+use answers::Verdict;
+
+// A port read.
+#[no_mangle]
+pub extern "C" fn ulb_read_io(
+    state: &mut [u8],
+    devices: &[u8],
+    ram: &[u8],
+    a: &mut [u8],
+    b: &mut [u8],
+    border: &mut [u8],
+    port: u16,
+    answer: &mut [u8],
+) -> u8
+    ensures { λ r. ⌜ outcome r
+        (lent (now (state .exit)) (now (ram .entry)) (now (a .exit)) (now (b .exit)) (now (border .exit)))
+        (now (answer .exit))
+        ≡ readIo (lent (now (state .entry)) (now (ram .entry)) (now (a .entry)) (now (b .entry)) (now (border .entry))) (now (devices .entry)) port (now (answer .entry)) ⌝ }
+{
+    let v = answers::judge_port(
+        state,
+        devices,
+        ram.len(),
+        a.len(),
+        b.len(),
+        border.len(),
+        answer.len(),
+    );
+    match v {
+        Verdict::Refused(e) => answers::refuse(answer, 10, e),
+        Verdict::Accepted(held) => {
+            let begun = steps::begun(held);
+            let devices = ports::devices_from(devices);
+            let read = calls::read_io(begun, devices, port, ram, a, b, border);
+            let turn = read.turn;
+            timed::finish_step(turn, read.value, state, answer)
+        }
+    }
+}

@@ -1,0 +1,44 @@
+// What it is: start at the C surface: ulb_start.
+// What it promises: the call accepts all bytes and numbers; what it returns, and every slice that it was lent at exit, is its definition of the slices at entry and the numbers.
+// Where its definitions stand: crate contracts, specs/Timed.antt.
+ghost use mathlib.Core.Path.{_≡_};
+ghost use Rattle.contracts.specs.Timed.{lent, startFits, startLeaves, start};
+use answers::Refusal;
+use machine::ZXMachine;
+
+fn start_fits(m: ZXMachine, state: usize, ram: usize, a: usize, b: usize, border: usize) -> bool
+    ensures { λ r. ⌜ r ≡ startFits m state ram a b border ⌝ }
+{
+    let specs = m.specs();
+    (state == 23) & (ram == specs.ram) & (a == 49152) & (b == 49152) & (border == 76800)
+}
+
+// The record is only written, whatever it holds; ROM is not lent, so that it cannot be touched.
+#[no_mangle]
+pub extern "C" fn ulb_start(
+    state: &mut [u8],
+    ram: &mut [u8],
+    a: &mut [u8],
+    b: &mut [u8],
+    border: &mut [u8],
+    machine: u32,
+) -> u8
+    ensures { λ r. ⌜ startLeaves r
+        (lent (now (state .exit)) (now (ram .exit)) (now (a .exit)) (now (b .exit)) (now (border .exit)))
+        ≡ start (lent (now (state .entry)) (now (ram .entry)) (now (a .entry)) (now (b .entry)) (now (border .entry))) machine ⌝ }
+{
+    if 1 < machine {
+        return answers::number(Refusal::BadMachine);
+    }
+    let m = record::machine_from(machine as u8);
+    if start_fits(m, state.len(), ram.len(), a.len(), b.len(), border.len()) {
+        answers::clear(ram);
+        answers::clear(a);
+        answers::clear(b);
+        answers::clear(border);
+        record::encode(state, record::start_record(m));
+        0
+    } else {
+        answers::number(Refusal::BadLength)
+    }
+}

@@ -1,3 +1,0 @@
-pub mod Begun
-pub mod Timing
-pub mod Determined
