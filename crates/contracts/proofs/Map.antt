@@ -1,10 +1,9 @@
 -- THE MAP: what `ulb_block` names once, read without a call, is byte for byte what `ulb_read_internal` answers, of every record with the same
 -- machine and the same 7FFD byte, and of ROM and RAM as they stand at the read. It stays good until a call answers 5, or a start.
 -- Assumes nothing.
-use Prim.Native.Nat.{ℕ, _+_, _*_, _/_, _%_, _≤_, _<_, _^_}
+use Prim.Native.Nat.{ℕ, _+_, _*_, _/_, _%_, _<_, _^_}
 use mathlib.Core.Path.{_≡_, refl, sym, ap, _∙_}
-use mathlib.Core.Bool.{Bool, true, false, cond}
-use mathlib.Core.List.{List, [], _∷_, _++_}
+use mathlib.Core.List.{List, [], _∷_}
 use native.Mathlib.Omega.{arith}
 use borrow.Author.Tests.{le-ltb}
 use lib.ListN.{length, getD, List·getD-append}
@@ -31,7 +30,7 @@ use Rattle.ports.specs.declared.Written.the-variants as written
 use Rattle.ports.specs.Devices.{devicesOf}
 use Rattle.ports.specs.Order.{writeOrder, writtenCode}
 use Rattle.bus.specs.World.{Core, busOf}
-use Rattle.bus.specs.Time.{Op, tick, closes, inCore}
+use Rattle.bus.specs.Time.{Op, closes, inCore}
 use Rattle.bus.specs.Turns.{coreAfter, fresh, Part, andThen, ranBy}
 use Rattle.bus.specs.Calls.{contended, plainWait, delayed, addressWait, firstPart, heldStep, lastPart, finalStep, readBefore, portRead, repaged, actedOn, portWrite, writeCode}
 use Rattle.bus.proofs.Runs.{ran-machine, ran-core, core-then}
@@ -41,8 +40,8 @@ use Rattle.answers.specs.Judges.{judgeState, judgeTold, judgeRead, judgeRamPage
 use Rattle.answers.specs.Answers.{numberAnswer}
 use Rattle.answers.specs.Ready.{OnRecord}
 use Rattle.answers.proofs.Order.{read-ordered, block-told-ordered}
-use Rattle.answers.proofs.Accepted.{ready-wait, ready-port, ready-state, ready-told, ready-read, ready-ram-page, ready-ram-page-told, ready-block, ready-block-told}
-use Rattle.contracts.specs.Timed.{Lent, lentWorld, timed, noValue, judgeWaitOf, judgePortOf, waitInternal, waitAt, readIo, writeIo}
+use Rattle.answers.proofs.Accepted.{ready-wait, ready-port, ready-state, ready-told, ready-read, ready-ram-page-told, ready-block, ready-block-told}
+use Rattle.contracts.specs.Timed.{Lent, lentWorld, timed, judgeWaitOf, judgePortOf, waitInternal, waitAt, readIo, writeIo}
 use Rattle.contracts.specs.Plain.{told, tell, change, repage, withPaging, withPassed, readInternal, write7ffdCall, resetFrames, part, ramPagePart, blockPart, ramPageTold, blockTold}
 use Rattle.contracts.specs.Map.{numberIn, codeIn, Named, MapOf, counted, mapped, Alike, renews, Quiet, waited, waitedAt, readPort, wrotePort, wrote7ffd, reset, AllQuiet, last}
 use Rattle.contracts.proofs.Parts.{number-back, told-bus, start-small}
