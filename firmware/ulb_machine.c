@@ -10,6 +10,9 @@
 #define PICTURES m->a, sizeof m->a, m->b, sizeof m->b
 #define PAINTED PICTURES, m->border, sizeof m->border
 
+/* How far ram[0] lies from rom[0] in the struct. */
+#define RAM_FROM_ROM (offsetof(ulb_machine, ram) - offsetof(ulb_machine, rom))
+
 static uint16_t word16(const uint8_t *p) { return (uint16_t)(p[0] | p[1] << 8); }
 static uint32_t word32(const uint8_t *p) { return word16(p) | (uint32_t)word16(p + 2) << 16; }
 
@@ -48,6 +51,19 @@ static ulb_part memory_part(const ulb_machine *m, ulb_number start) {
     return p;
 }
 
+/* Asks ulb_block where each block starts. Needed whenever the 7FFD byte may have changed, and only then: after a start, after
+ * a write that answered ULB_PAGED, and after a record from outside (contracts' theorem `map-stays`). Refused: the map stays. */
+static uint8_t renew_map(ulb_machine *m) {
+    uint32_t map[4];
+    for (uint32_t block = 0; block < 4; block++) {
+        ulb_part part = ulb_machine_block(m, block);
+        if (part.refusal != ULB_OK) return part.refusal;
+        map[block] = (uint32_t)(part.in_rom ? part.bytes - m->rom : part.bytes - m->ram + (ptrdiff_t)RAM_FROM_ROM);
+    }
+    memcpy(m->map, map, sizeof m->map);
+    return ULB_OK;
+}
+
 uint8_t ulb_machine_init(ulb_machine *m, uint32_t kind, const uint8_t *rom, size_t rom_len) {
     if (kind > ULB_128K) return ULB_BAD_MACHINE;
     size_t wanted = kind == ULB_48K ? ULB_ROM_BYTES_48K : ULB_ROM_BYTES_128K;
@@ -60,7 +76,10 @@ uint8_t ulb_machine_init(ulb_machine *m, uint32_t kind, const uint8_t *rom, size
     return ulb_machine_restart(m);
 }
 
-uint8_t ulb_machine_restart(ulb_machine *m) { return ulb_start(STATE, RAM, PAINTED, m->kind); }
+uint8_t ulb_machine_restart(ulb_machine *m) {
+    uint8_t refusal = ulb_start(STATE, RAM, PAINTED, m->kind);
+    return refusal == ULB_OK ? renew_map(m) : refusal;
+}
 
 ulb_timed ulb_machine_wait(ulb_machine *m, uint32_t clocks) {
     uint8_t answer[ULB_TIMED_ANSWER_BYTES] = {0};
@@ -89,7 +108,9 @@ ulb_timed ulb_machine_read_io(ulb_machine *m, uint16_t port) {
 ulb_timed ulb_machine_write_io(ulb_machine *m, uint16_t port, uint8_t value) {
     uint8_t answer[ULB_TIMED_ANSWER_BYTES] = {0};
     uint8_t refusal = ulb_write_io(STATE, DEVICES, RAM, PAINTED, port, value, answer, sizeof answer);
-    return timed(refusal, answer);
+    ulb_timed t = timed(refusal, answer);
+    if (t.value == ULB_PAGED) renew_map(m); /* of a refused call the value is 0 */
+    return t;
 }
 
 ulb_timed ulb_machine_port_timing(const ulb_machine *m, ulb_machine *scratch, uint16_t port) {
@@ -98,6 +119,7 @@ ulb_timed ulb_machine_port_timing(const ulb_machine *m, ulb_machine *scratch, ui
         return t;
     }
     memcpy(scratch->state, m->state, sizeof scratch->state);
+    memcpy(scratch->map, m->map, sizeof scratch->map);
     return ulb_machine_read_io(scratch, port);
 }
 
@@ -118,7 +140,9 @@ uint8_t ulb_machine_load_page(ulb_machine *m, const uint8_t *bytes, size_t len, 
 ulb_number ulb_machine_write_7ffd(ulb_machine *m, uint8_t value) {
     uint8_t answer[ULB_NUMBER_ANSWER_BYTES] = {0};
     uint8_t refusal = ulb_write_7ffd(STATE, value, answer, sizeof answer);
-    return numbered(refusal, answer);
+    ulb_number n = numbered(refusal, answer);
+    if (n.number == ULB_PAGED) renew_map(m); /* of a refused call the number is 0 */
+    return n;
 }
 
 ulb_number ulb_machine_read_7ffd(ulb_machine *m) {
@@ -140,6 +164,17 @@ ulb_number ulb_machine_frames_count(ulb_machine *m) {
 }
 
 uint8_t ulb_machine_reset_frame_counter(ulb_machine *m) { return ulb_reset_frame_counter(STATE); }
+
+uint8_t ulb_machine_load_state(ulb_machine *m, const uint8_t *state, size_t len) {
+    enum { KIND_AT = 5 };
+    if (len != sizeof m->state || state[KIND_AT] != m->kind) return ULB_BAD_LENGTH;
+    uint8_t before[ULB_STATE_BYTES];
+    memcpy(before, m->state, sizeof before);
+    memcpy(m->state, state, sizeof m->state);
+    uint8_t refusal = renew_map(m); /* its calls judge the record */
+    if (refusal != ULB_OK) memcpy(m->state, before, sizeof m->state);
+    return refusal;
+}
 
 ulb_part ulb_machine_ram_page(ulb_machine *m, uint32_t page) {
     uint8_t answer[ULB_NUMBER_ANSWER_BYTES] = {0};

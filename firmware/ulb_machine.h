@@ -27,6 +27,8 @@ extern "C" {
 typedef struct {
     uint32_t kind;                       /* ULB_48K or ULB_128K */
     size_t rom_len, ram_len;             /* what is lent: by the kind */
+    uint32_t map[4];                     /* ulb_machine_byte's: where each block starts, in bytes from rom[0] on over this
+                                          * struct; offsets and no pointers, so that a machine can be copied and saved */
     uint8_t state[ULB_STATE_BYTES];      /* docs/LAYOUTS.md, "State" */
     uint8_t devices[ULB_DEVICE_BYTES];   /* docs/LAYOUTS.md, "Devices"; the setters below write it */
     uint8_t rom[ULB_ROM_BYTES_128K];
@@ -78,7 +80,18 @@ ulb_timed ulb_machine_write_io(ulb_machine *m, uint16_t port, uint8_t value);
  * Refused with ULB_BAD_LENGTH if the kinds differ. */
 ulb_timed ulb_machine_port_timing(const ulb_machine *m, ulb_machine *scratch, uint16_t port);
 
-/* Memory, in no time: ulb_read_internal, ulb_write_internal, ulb_load_page (16,384 bytes). */
+/* The byte at an address, in no time and without a call: for a processor, which asks for thousands a frame. It reads where
+ * ulb_block said that the address's block starts. That this is the byte which ulb_machine_read would give is proved as long as
+ * the 7FFD byte stays (crate contracts, proofs/Map.antt); the calls below that change it ask ulb_block anew: a start, and a
+ * port or 7FFD write that answers ULB_PAGED. If you write m->state yourself, do it by ulb_machine_load_state.
+ * Of a machine that was never started the byte means nothing. */
+static inline uint8_t ulb_machine_byte(const ulb_machine *m, uint16_t addr) {
+    const uint8_t *from_rom = (const uint8_t *)m + offsetof(ulb_machine, rom);
+    return from_rom[m->map[addr / ULB_PAGE_BYTES] + addr % ULB_PAGE_BYTES];
+}
+
+/* Memory, in no time: ulb_read_internal (the same byte, judged: with a refusal if the record is not sound),
+ * ulb_write_internal, ulb_load_page (16,384 bytes). */
 ulb_number ulb_machine_read(ulb_machine *m, uint16_t addr);
 uint8_t ulb_machine_write(ulb_machine *m, uint16_t addr, uint8_t value);
 uint8_t ulb_machine_load_page(ulb_machine *m, const uint8_t *bytes, size_t len, uint32_t page);
@@ -89,6 +102,10 @@ ulb_number ulb_machine_read_7ffd(ulb_machine *m);
 ulb_number ulb_machine_int_active(ulb_machine *m);
 ulb_number ulb_machine_frames_count(ulb_machine *m);
 uint8_t ulb_machine_reset_frame_counter(ulb_machine *m);
+
+/* A record from a snapshot (23 bytes, as m->state had them) in the place of the machine's own. RAM is yours to load besides.
+ * Refusals, with nothing changed: 2 it has another length or is another kind's; 3 it is not sound. */
+uint8_t ulb_machine_load_state(ulb_machine *m, const uint8_t *state, size_t len);
 
 /* Parts: ulb_ram_page, ulb_block, ulb_shown_picture. They stay where they are until the next call. */
 ulb_part ulb_machine_ram_page(ulb_machine *m, uint32_t page);

@@ -1,11 +1,12 @@
 //! bench [ROUNDS]: the Rust original and our library timed side by side in one run, on the machine at hand. Each line is
-//! one work: the median over the rounds of the original's and of our time for one call (or one frame), and ours / the
-//! original's. Rounds go in turns, so that a slow moment of the machine falls on both.
+//! one round of one work: its name, and the nanoseconds of one call (or one frame) at the original and at ours, with tabs
+//! between them; bench/report makes a table of them. The two go in turns, so that a slow moment of the machine falls on both.
 use compare::{c, Ours};
 use core_ay::door::Plain;
 use play::random::{BLOCK, LINE};
 use play::script::{filling, FRAME};
 use std::hint::black_box;
+use ulb_machine::{Kind, Machine};
 
 const MACHINE: u8 = 1;
 
@@ -44,8 +45,15 @@ fn ours() -> Ours {
     m
 }
 
-/// A call of ours on a machine and its answer.
-type Call = fn(&mut Ours, u32) -> u8;
+/// The same machine in the wrapper that a firmware uses, which reads bytes without a call.
+fn wrapped() -> Box<Machine> {
+    let mut m = Machine::boxed();
+    m.start(Kind::Spectrum128, &filling(99, 32_768)).unwrap();
+    for page in 0..8 {
+        m.load_page(&filling(page, 16_384), page).unwrap();
+    }
+    m
+}
 
 fn wait_internal(m: &mut Ours, n: u32) -> u8 {
     let mut t = [0; 10];
@@ -139,36 +147,39 @@ fn our_frame(m: &mut Ours) {
     }
 }
 
-fn median(mut v: Vec<f64>) -> f64 {
-    v.sort_by(f64::total_cmp);
-    v[v.len() / 2]
+fn report(name: &str, (rust, ours): (f64, f64)) {
+    println!("{name}\t{rust:.3}\t{ours:.3}");
 }
 
-fn report(name: &str, times: Vec<(f64, f64)>) {
-    let (r, o): (Vec<f64>, Vec<f64>) = times.iter().copied().unzip();
-    let ratio = median(times.iter().map(|(r, o)| o / r).collect());
-    println!("{name:<52} {:>12.1} {:>12.1} {ratio:>8.2}", median(r), median(o));
+/// Rounds of 20,000 calls each, of the original and of ours on a machine `o`.
+fn calls_on<M>(
+    name: &str,
+    rounds: usize,
+    rust_call: impl Fn(&mut Plain, u32),
+    mut o: M,
+    our_call: impl Fn(&mut M, u32) -> u8,
+    argument: impl Fn(u32) -> u32,
+) {
+    let mut r = rust();
+    for _ in 0..rounds {
+        let rust = per_call(20_000, |i| rust_call(&mut r, black_box(argument(i))));
+        let ours = per_call(20_000, |i| keep(our_call(&mut o, black_box(argument(i)))));
+        report(name, (rust, ours))
+    }
 }
 
 fn calls(
     name: &str,
     rounds: usize,
     rust_call: impl Fn(&mut Plain, u32),
-    our_call: Call,
+    our_call: impl Fn(&mut Ours, u32) -> u8,
     argument: impl Fn(u32) -> u32,
 ) {
-    let (mut r, mut o) = (rust(), ours());
-    let round = |_| {
-        let rust = per_call(20_000, |i| rust_call(&mut r, black_box(argument(i))));
-        let ours = per_call(20_000, |i| keep(our_call(&mut o, black_box(argument(i)))));
-        (rust, ours)
-    };
-    report(name, (0..rounds).map(round).collect())
+    calls_on(name, rounds, rust_call, ours(), our_call, argument)
 }
 
 fn main() {
-    let rounds = std::env::args().nth(1).map_or(41, |s| s.parse().expect("a number"));
-    println!("{:<52} {:>12} {:>12} {:>8}", "128K; nanoseconds, medians", "original", "ours", "ratio");
+    let rounds = std::env::args().nth(1).map_or(9, |s| s.parse().expect("a number"));
     calls("plain wait, 4 clocks", rounds, |m, n| m.wait_internal(n as usize), wait_internal, |_| 4);
     calls("plain wait, 0 clocks", rounds, |m, n| m.wait_internal(n as usize), wait_internal, |_| 0);
     calls("contended wait, 4 clocks", rounds, |m, n| m.wait_mreq(0x4000, n as usize), wait_mreq, |_| 4);
@@ -185,12 +196,16 @@ fn main() {
     let write = |m: &mut Plain, p: u32| m.write_io(p as u16, 2);
     calls("port write, border", rounds, write, write_io, |_| 0xFE);
     calls("port write, 7FFD", rounds, write, write_io, |_| 0x7FFD);
-    calls("byte read", rounds, |m, a| keep(m.read_internal(a as u16)), read_internal, |i| i);
+    let peek = |m: &mut Plain, a: u32| keep(m.read_internal(a as u16));
+    calls("byte read", rounds, peek, read_internal, |i| i);
+    calls_on("byte read through the map", rounds, peek, wrapped(), |m, a| m.byte(a as u16), |i| i);
     calls("byte write", rounds, |m, a| m.write_internal(a as u16, 3), write_internal, |i| 0x4000 + i % 0x1B00);
 
     let frames = |name: &str, from: usize, run: &dyn Fn(&mut Plain), run_ours: &dyn Fn(&mut Ours)| {
         let (mut r, mut o) = (rust(), ours());
-        report(name, (0..rounds).map(|_| per_frame(from, &mut r, &mut o, run, run_ours)).collect())
+        for _ in 0..rounds {
+            report(name, per_frame(from, &mut r, &mut o, run, run_ours))
+        }
     };
     let block = BLOCK[MACHINE as usize];
     frames("a frame of contended waits of 4 clocks", 0, &rust_frame, &our_frame);

@@ -3,3 +3,4 @@ pub mod Determined
 pub mod Refusals
 pub mod Parts
 pub mod Sound
+pub mod Map

@@ -16,7 +16,6 @@ use Rattle.machine.specs.declared.ZXMachine.{ZXMachine}
 use Rattle.machine.specs.declared.ZXMachine.the-variants.{Sinclair48K, Sinclair128K}
 use Rattle.machine.specs.Numbers.{specsOf}
 use Rattle.record.specs.declared.Bus.{Bus}
-use Rattle.record.specs.Words.{longAt}
 use Rattle.record.specs.Record.{recordOf}
 use Rattle.memory.specs.declared.Page.{Page}
 use Rattle.memory.specs.declared.Page.the-variants as page
@@ -34,14 +33,11 @@ use Rattle.answers.specs.Answers.{numberAnswer}
 use Rattle.answers.specs.Order.{Ordered}
 use Rattle.answers.proofs.Order.{ram-page-ordered, ram-page-told-ordered, block-ordered, block-told-ordered, shown-ordered, shown-told-ordered}
 use Rattle.answers.proofs.Accepted.{ready-ram-page, ready-block, ready-shown}
+use Rattle.contracts.specs.Map.{numberIn}
 use Rattle.contracts.specs.Plain.{tell, part, ramPagePart, blockPart, shownPart, ramPageTold, blockTold, shownTold}
 use Rattle.contracts.proofs.Refusals.{not-zero}
 
--- the number that a 5-byte answer gives: "refusal, number (32)"
-abbrev pub numberIn : List ℕ → ℕ
-numberIn answer = longAt answer 1
-
-number-back : (n : ℕ) → n < 2 ^ 32 → numberIn (numberAnswer n) ≡ n
+pub number-back : (n : ℕ) → n < 2 ^ 32 → numberIn (numberAnswer n) ≡ n
 number-back n h = long-back n h
 
 -- ---- the two judgements: C's asks for the answer's length besides
@@ -70,7 +66,7 @@ module _ (v w : Verdict) (first second : Cause) (fit answered : Bool) (rest : Li
       subst (λ (x : Bus). w ≡ Accepted x) (sym (n .1))
       (lent .noneAccepts (n .0 .0, (n .0 .1 .0, (not-both fit answered (n .0 .1 .1 .0) t, n .0 .1 .1 .1))))
 
-told-bus : (number : Bus → ℕ) (answer : List ℕ) (w : Verdict) → tell number answer w .code ≡ 0 → (bus : Bus) × (w ≡ Accepted bus)
+pub told-bus : (number : Bus → ℕ) (answer : List ℕ) (w : Verdict) → tell number answer w .code ≡ 0 → (bus : Bus) × (w ≡ Accepted bus)
 told-bus number answer (Refused e) p = absurd (not-zero e p)
 told-bus number answer (Accepted bus) p = (bus, refl)
 
@@ -81,7 +77,7 @@ none-handed number whole answer (Refused e) w f n = refl
 none-handed number whole answer (Accepted b) w f n = absurd (n (rw (f b refl)))
 
 -- ---- where a page starts fits 32 bits
-start-small : (m : ZXMachine) (p : Page) → Holds p (specsOf m .rom) (specsOf m .ram) → partStart m p < 2 ^ 32
+pub start-small : (m : ZXMachine) (p : Page) → Holds p (specsOf m .rom) (specsOf m .ram) → partStart m p < 2 ^ 32
 start-small Sinclair48K (page.Rom p) h = omega arith
 start-small Sinclair48K (page.Ram p) h = omega arith
 start-small Sinclair128K (page.Rom p) h = omega arith

@@ -1,3 +1,4 @@
 pub mod Timed
 pub mod Plain
 pub mod Helpers
+pub mod Map

@@ -139,14 +139,38 @@ impl Devices {
     }
 }
 
+/// The code of a port write or 7FFD write that changed the paging.
+const PAGED: u32 = 5;
+const STATE_BYTES: usize = 23;
+/// Where a record has its kind.
+const KIND_AT: usize = 5;
+const ROM_PAGES: usize = 2;
+const RAM_PAGES: usize = 8;
+
+/// The pages of ROM and then those of RAM, one behind the other: a block is a page of it, whichever of the two it lies in.
+struct Memory([[u8; PAGE_BYTES]; ROM_PAGES + RAM_PAGES]);
+
+impl Memory {
+    fn rom(&self) -> *const u8 {
+        self.0[..ROM_PAGES].as_ptr().cast()
+    }
+    fn ram(&self) -> *const u8 {
+        self.0[ROM_PAGES..].as_ptr().cast()
+    }
+    fn ram_mut(&mut self) -> *mut u8 {
+        self.0[ROM_PAGES..].as_mut_ptr().cast()
+    }
+}
+
 /// A machine and its memory: 340 KB, so keep it in a static or on the heap. Before [`Machine::start`] every call is refused
 /// with [`Refusal::Unsound`].
 pub struct Machine {
     pub devices: Devices,
     kind: Kind,
-    state: [u8; 23],
-    rom: [u8; 32768],
-    ram: [u8; 131072],
+    state: [u8; STATE_BYTES],
+    /// The page of each block; see [`Machine::byte`].
+    map: [u8; 4],
+    memory: Memory,
     a: [u8; PICTURE_BYTES],
     b: [u8; PICTURE_BYTES],
     border: [u8; BORDER_BYTES],
@@ -186,9 +210,9 @@ impl Machine {
         Machine {
             devices: Devices::none(),
             kind: Kind::Spectrum48,
-            state: [0; 23],
-            rom: [0; 32768],
-            ram: [0; 131072],
+            state: [0; STATE_BYTES],
+            map: [0; 4],
+            memory: Memory([[0; PAGE_BYTES]; ROM_PAGES + RAM_PAGES]),
             a: [0; PICTURE_BYTES],
             b: [0; PICTURE_BYTES],
             border: [0; BORDER_BYTES],
@@ -207,18 +231,31 @@ impl Machine {
         }
         let ram = kind.ram_bytes();
         accepted(unsafe {
-            raw::ulb_start(self.state.as_mut_ptr(), 23, self.ram.as_mut_ptr(), ram, self.a.as_mut_ptr(), PICTURE_BYTES,
+            raw::ulb_start(self.state.as_mut_ptr(), 23, self.memory.ram_mut(), ram, self.a.as_mut_ptr(), PICTURE_BYTES,
                 self.b.as_mut_ptr(), PICTURE_BYTES, self.border.as_mut_ptr(), BORDER_BYTES, kind as u32)
         })?;
         self.kind = kind;
-        self.rom[..rom.len()].copy_from_slice(rom);
-        Ok(())
+        for (page, bytes) in self.memory.0.iter_mut().zip(rom.chunks_exact(PAGE_BYTES)) {
+            page.copy_from_slice(bytes);
+        }
+        self.renew_map()
+    }
+
+    /// A record from a snapshot, as [`Machine::state`] gave it, in the place of the machine's own; RAM is yours to load besides.
+    /// Refused, with nothing changed, if it is another kind's or not sound.
+    pub fn load_state(&mut self, state: &[u8; STATE_BYTES]) -> Result<(), Refusal> {
+        if state[KIND_AT] != self.kind as u8 {
+            return Err(Refusal::BadLength);
+        }
+        let before = self.state;
+        self.state = *state;
+        self.renew_map().inspect_err(|_| self.state = before) // its calls judge the record
     }
 
     pub fn wait(&mut self, clocks: u32) -> Result<Timed, Refusal> {
         let ram = self.kind.ram_bytes();
         timed(|answer, len| unsafe {
-            raw::ulb_wait_internal(self.state.as_mut_ptr(), 23, self.ram.as_ptr(), ram, self.a.as_mut_ptr(), PICTURE_BYTES,
+            raw::ulb_wait_internal(self.state.as_mut_ptr(), 23, self.memory.ram(), ram, self.a.as_mut_ptr(), PICTURE_BYTES,
                 self.b.as_mut_ptr(), PICTURE_BYTES, self.border.as_mut_ptr(), BORDER_BYTES, clocks, answer, len)
         })
     }
@@ -226,7 +263,7 @@ impl Machine {
     pub fn wait_mreq(&mut self, addr: u16, clocks: u32) -> Result<Timed, Refusal> {
         let ram = self.kind.ram_bytes();
         timed(|answer, len| unsafe {
-            raw::ulb_wait_mreq(self.state.as_mut_ptr(), 23, self.ram.as_ptr(), ram, self.a.as_mut_ptr(), PICTURE_BYTES,
+            raw::ulb_wait_mreq(self.state.as_mut_ptr(), 23, self.memory.ram(), ram, self.a.as_mut_ptr(), PICTURE_BYTES,
                 self.b.as_mut_ptr(), PICTURE_BYTES, self.border.as_mut_ptr(), BORDER_BYTES, addr, clocks, answer, len)
         })
     }
@@ -234,7 +271,7 @@ impl Machine {
     pub fn wait_no_mreq(&mut self, addr: u16, clocks: u32) -> Result<Timed, Refusal> {
         let ram = self.kind.ram_bytes();
         timed(|answer, len| unsafe {
-            raw::ulb_wait_no_mreq(self.state.as_mut_ptr(), 23, self.ram.as_ptr(), ram, self.a.as_mut_ptr(), PICTURE_BYTES,
+            raw::ulb_wait_no_mreq(self.state.as_mut_ptr(), 23, self.memory.ram(), ram, self.a.as_mut_ptr(), PICTURE_BYTES,
                 self.b.as_mut_ptr(), PICTURE_BYTES, self.border.as_mut_ptr(), BORDER_BYTES, addr, clocks, answer, len)
         })
     }
@@ -242,7 +279,7 @@ impl Machine {
     pub fn read_io(&mut self, port: u16) -> Result<Timed, Refusal> {
         let (ram, devices) = (self.kind.ram_bytes(), self.devices.bytes());
         timed(|answer, len| unsafe {
-            raw::ulb_read_io(self.state.as_mut_ptr(), 23, devices.as_ptr(), 35, self.ram.as_ptr(), ram, self.a.as_mut_ptr(),
+            raw::ulb_read_io(self.state.as_mut_ptr(), 23, devices.as_ptr(), 35, self.memory.ram(), ram, self.a.as_mut_ptr(),
                 PICTURE_BYTES, self.b.as_mut_ptr(), PICTURE_BYTES, self.border.as_mut_ptr(), BORDER_BYTES, port, answer, len)
         })
     }
@@ -250,17 +287,47 @@ impl Machine {
     pub fn write_io(&mut self, port: u16, value: u8) -> Result<Timed, Refusal> {
         let (ram, devices) = (self.kind.ram_bytes(), self.devices.bytes());
         timed(|answer, len| unsafe {
-            raw::ulb_write_io(self.state.as_mut_ptr(), 23, devices.as_ptr(), 35, self.ram.as_ptr(), ram, self.a.as_mut_ptr(),
+            raw::ulb_write_io(self.state.as_mut_ptr(), 23, devices.as_ptr(), 35, self.memory.ram(), ram, self.a.as_mut_ptr(),
                 PICTURE_BYTES, self.b.as_mut_ptr(), PICTURE_BYTES, self.border.as_mut_ptr(), BORDER_BYTES, port, value,
                 answer, len)
         })
+        .and_then(|t| self.renewed_if(t.value.into()).map(|()| t))
     }
 
-    /// The byte at an address, in no time.
+    /// The byte at an address, in no time and without a call: for a processor, which asks for thousands a frame. It reads where
+    /// `ulb_block` said that the address's block is. That this is the byte which [`Machine::read`] would give is proved as long
+    /// as the 7FFD byte stays (crate contracts, proofs/Map.antt); the calls that change it ask `ulb_block` anew: a start, and a
+    /// port or 7FFD write that answers 5. Of a machine that was never started the byte means nothing.
+    #[inline]
+    pub fn byte(&self, addr: u16) -> u8 {
+        let (block, offset) = (usize::from(addr) / PAGE_BYTES, usize::from(addr) % PAGE_BYTES);
+        self.memory.0[usize::from(self.map[block])][offset]
+    }
+
+    /// Asks `ulb_block` for the page of each block. Needed whenever the 7FFD byte may have changed, and only then (contracts'
+    /// theorem `map-stays`). Refused only if the record is not sound, which no accepted call leaves; the map then stays.
+    fn renew_map(&mut self) -> Result<(), Refusal> {
+        let mut map = [0; 4];
+        for (block, page) in (0..).zip(&mut map) {
+            *page = self.page_at(self.block_start(block)?) as u8;
+        }
+        self.map = map;
+        Ok(())
+    }
+
+    fn renewed_if(&mut self, code: u32) -> Result<(), Refusal> {
+        if code == PAGED {
+            self.renew_map()
+        } else {
+            Ok(())
+        }
+    }
+
+    /// The same byte by a call, which judges the record.
     pub fn read(&self, addr: u16) -> Result<u8, Refusal> {
         let (rom, ram) = (self.kind.rom_bytes(), self.kind.ram_bytes());
         number(|answer, len| unsafe {
-            raw::ulb_read_internal(self.state.as_ptr(), 23, self.rom.as_ptr(), rom, self.ram.as_ptr(), ram, addr, answer, len)
+            raw::ulb_read_internal(self.state.as_ptr(), 23, self.memory.rom(), rom, self.memory.ram(), ram, addr, answer, len)
         })
         .map(|byte| byte as u8)
     }
@@ -268,12 +335,13 @@ impl Machine {
     /// A byte to an address, in no time; a write to ROM vanishes.
     pub fn write(&mut self, addr: u16, value: u8) -> Result<(), Refusal> {
         let ram = self.kind.ram_bytes();
-        accepted(unsafe { raw::ulb_write_internal(self.state.as_ptr(), 23, self.ram.as_mut_ptr(), ram, addr, value) })
+        accepted(unsafe { raw::ulb_write_internal(self.state.as_ptr(), 23, self.memory.ram_mut(), ram, addr, value) })
     }
 
     /// 5 if paged, 6 if locked, 0 on 48K.
     pub fn write_7ffd(&mut self, value: u8) -> Result<u32, Refusal> {
-        number(|answer, len| unsafe { raw::ulb_write_7ffd(self.state.as_mut_ptr(), 23, value, answer, len) })
+        let code = number(|answer, len| unsafe { raw::ulb_write_7ffd(self.state.as_mut_ptr(), 23, value, answer, len) })?;
+        self.renewed_if(code).map(|()| code)
     }
 
     pub fn read_7ffd(&self) -> Result<u32, Refusal> {
@@ -295,34 +363,41 @@ impl Machine {
     pub fn load_page(&mut self, bytes: &[u8], page: u32) -> Result<(), Refusal> {
         let ram = self.kind.ram_bytes();
         accepted(unsafe {
-            raw::ulb_load_page(self.state.as_ptr(), 23, self.ram.as_mut_ptr(), ram, bytes.as_ptr(), bytes.len(), page)
+            raw::ulb_load_page(self.state.as_ptr(), 23, self.memory.ram_mut(), ram, bytes.as_ptr(), bytes.len(), page)
         })
     }
 
-    /// A part by its start, RAM counted after ROM.
-    fn part(&self, start: u32) -> &[u8] {
+    /// The page of `memory` at a part's start, RAM counted after ROM.
+    fn page_at(&self, start: u32) -> usize {
         let (start, rom) = (start as usize, self.kind.rom_bytes());
         match start.checked_sub(rom) {
-            None => &self.rom[start..start + PAGE_BYTES],
-            Some(at) => &self.ram[at..at + PAGE_BYTES],
+            None => start / PAGE_BYTES,
+            Some(at) => ROM_PAGES + at / PAGE_BYTES,
         }
+    }
+
+    fn part(&self, start: u32) -> &[u8] {
+        &self.memory.0[self.page_at(start)]
     }
 
     pub fn ram_page(&self, page: u32) -> Result<&[u8], Refusal> {
         let ram = self.kind.ram_bytes();
         number(|answer, len| unsafe {
-            raw::ulb_ram_page(self.state.as_ptr(), 23, self.ram.as_ptr(), ram, page, answer, len)
+            raw::ulb_ram_page(self.state.as_ptr(), 23, self.memory.ram(), ram, page, answer, len)
         })
         .map(|start| self.part(start))
     }
 
-    /// The 16 KiB at a block 0..3: a part of ROM or RAM.
-    pub fn block(&self, block: u32) -> Result<&[u8], Refusal> {
+    fn block_start(&self, block: u32) -> Result<u32, Refusal> {
         let (rom, ram) = (self.kind.rom_bytes(), self.kind.ram_bytes());
         number(|answer, len| unsafe {
-            raw::ulb_block(self.state.as_ptr(), 23, self.rom.as_ptr(), rom, self.ram.as_ptr(), ram, block, answer, len)
+            raw::ulb_block(self.state.as_ptr(), 23, self.memory.rom(), rom, self.memory.ram(), ram, block, answer, len)
         })
-        .map(|start| self.part(start))
+    }
+
+    /// The 16 KiB at a block 0..3: a part of ROM or RAM.
+    pub fn block(&self, block: u32) -> Result<&[u8], Refusal> {
+        self.block_start(block).map(|start| self.part(start))
     }
 
     /// 256 x 192 colours 0..15 of the last finished frame.
@@ -343,12 +418,12 @@ impl Machine {
     pub fn still_picture(&self, picture: &mut [u8], flash: u32) -> Result<(), Refusal> {
         let ram = self.kind.ram_bytes();
         accepted(unsafe {
-            raw::ulb_still_picture(self.state.as_ptr(), 23, self.ram.as_ptr(), ram, picture.as_mut_ptr(), picture.len(), flash)
+            raw::ulb_still_picture(self.state.as_ptr(), 23, self.memory.ram(), ram, picture.as_mut_ptr(), picture.len(), flash)
         })
     }
 
     /// The record, for a snapshot.
-    pub fn state(&self) -> &[u8; 23] {
+    pub fn state(&self) -> &[u8; STATE_BYTES] {
         &self.state
     }
 

@@ -1,5 +1,5 @@
 //! A few frames through the safe layer. Linked and run on x86-64; elsewhere `cargo check --tests` reads it.
-use ulb_machine::{bitmap_line_addr, Kind, Machine, Mouse, Refusal, PICTURE_BYTES};
+use ulb_machine::{bitmap_line_addr, Kind, Machine, Mouse, Refusal, PAGE_BYTES, PICTURE_BYTES};
 
 fn started(kind: Kind) -> Box<Machine> {
     let mut m = Machine::boxed();
@@ -78,4 +78,80 @@ fn devices() {
     m.devices.extender = Some(9);
     assert_eq!(m.read_io(0xFFDF).unwrap().value, 9);
     assert_eq!(bitmap_line_addr(191), Ok(0x57E0));
+}
+
+/// No two pages of ROM and RAM have the same byte at the same offset, so that a wrong page is seen at every address.
+fn filling(page: usize, offset: usize) -> u8 {
+    (31 * page + 7 * offset + (offset >> 8) + 3) as u8
+}
+
+fn filled(kind: Kind) -> Box<Machine> {
+    let page = |number| (0..PAGE_BYTES).map(|offset| filling(number, offset)).collect::<Vec<u8>>();
+    let mut m = Machine::boxed();
+    m.start(kind, &[page(8), page(9)].concat()[..kind.rom_bytes()]).unwrap();
+    for number in 0..kind.ram_bytes() / PAGE_BYTES {
+        m.load_page(&page(number), number as u32).unwrap();
+    }
+    m
+}
+
+/// The map's byte is the call's, in every block at its first and last two bytes, and at every `stride`th address.
+fn same(m: &Machine, stride: usize) {
+    for addr in 0..=0xFFFF {
+        let offset = usize::from(addr) % PAGE_BYTES;
+        if offset < 2 || offset >= PAGE_BYTES - 2 || usize::from(addr) % stride == 0 {
+            assert_eq!(Ok(m.byte(addr)), m.read(addr), "at {addr:04X}h");
+        }
+    }
+}
+
+#[test]
+fn bytes_through_the_map() {
+    let mut m = filled(Kind::Spectrum48);
+    same(&m, 1);
+    assert_eq!((m.write_7ffd(0x17), m.write_io(0x7FFD, 0x17).unwrap().value), (Ok(0), 0));
+    same(&m, 97);
+
+    // every 7FFD byte, by the call and by the port, each from a fresh record, since some lock
+    let mut m = filled(Kind::Spectrum128);
+    let fresh = *m.state();
+    same(&m, 1);
+    for value in 0..=255 {
+        m.load_state(&fresh).unwrap();
+        same(&m, 4999);
+        assert_eq!(m.write_7ffd(value), Ok(5));
+        same(&m, 997);
+        let locked = value & 0x20 != 0;
+        assert_eq!(m.write_io(0x7FFD, value ^ 7).unwrap().value, if locked { 6 } else { 5 });
+        same(&m, 997);
+    }
+}
+
+/// What the map's bytes are before and after paging: a map that was not renewed would still give the first.
+#[test]
+fn the_map_is_renewed() {
+    let mut m = filled(Kind::Spectrum128);
+    let seen = |m: &Machine| [0x0000, 0x4000, 0x8000, 0xC000].map(|addr| m.byte(addr));
+    let pages = |pages: [usize; 4]| pages.map(|page| filling(page, 0));
+    assert_eq!(seen(&m), pages([8, 5, 2, 0]));
+    assert_eq!(m.write_io(0x7FFD, 0x13).unwrap().value, 5);
+    assert_eq!(seen(&m), pages([9, 5, 2, 3]));
+    assert_eq!(m.write_7ffd(0x26), Ok(5));
+    assert_eq!(seen(&m), pages([8, 5, 2, 6]));
+    assert_eq!(m.write_7ffd(0x10), Ok(6));
+    assert_eq!(seen(&m), pages([8, 5, 2, 6]));
+    m.write(0xC000, 0xA5).unwrap();
+    assert_eq!((m.byte(0xC000), m.ram_page(6).unwrap()[0]), (0xA5, 0xA5));
+
+    let mut record = *m.state();
+    record[17] = 0x14;
+    m.load_state(&record).unwrap();
+    assert_eq!(seen(&m), pages([9, 5, 2, 4]));
+    record[14] = 32; // no such flash phase
+    assert_eq!(m.load_state(&record), Err(Refusal::Unsound));
+    record[5] = 0; // a 48K's
+    assert_eq!(m.load_state(&record), Err(Refusal::BadLength));
+    assert_eq!((seen(&m), m.read_7ffd()), (pages([9, 5, 2, 4]), Ok(0x14)));
+    m.start(Kind::Spectrum128, &[1; 32768]).unwrap();
+    assert_eq!(seen(&m), [1, 0, 0, 0]);
 }

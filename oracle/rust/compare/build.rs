@@ -43,6 +43,11 @@ fn main() {
     println!("cargo:rerun-if-env-changed=ULB_OBJECT");
     println!("cargo:rerun-if-changed={object}");
     println!("cargo:rustc-link-arg={object}");
+    // another order of the functions in the program, for bench/run
+    println!("cargo:rerun-if-env-changed=ULB_LAYOUT");
+    if let Some(seed) = env::var("ULB_LAYOUT").ok().filter(|seed| !seed.is_empty()) {
+        println!("cargo:rustc-link-arg=-Wl,--shuffle-sections=.text*={seed}");
+    }
 
     let header = "../include/ulb.h";
     println!("cargo:rerun-if-changed={header}");

@@ -1,0 +1,147 @@
+/* Holds the wrapper's read without a call (ulb_machine_byte) to ulb_read_internal: at the edges of each block and across it, on
+ * both kinds, over every 7FFD byte, by either way of writing it, locked or not, after a restart, a loaded record and a copy.
+ * Prints one line a failure and a last line `map: N checks, M failed`; exit status 1 if any failed. */
+#include <stdio.h>
+#include <string.h>
+#include "ulb_machine.h"
+
+static ulb_machine m, other;
+static unsigned checks, failures;
+
+static void check_at(int line, const char *what, long got, long want) {
+    checks++;
+    if (got != want) {
+        failures++;
+        printf("map.c:%d: %s: got %ld, want %ld\n", line, what, got, want);
+    }
+}
+#define CHECK(what, got, want) check_at(__LINE__, what, (long)(got), (long)(want))
+
+/* No two pages of ROM and RAM have the same byte at the same offset, so that a wrong page is seen at every address. */
+static uint8_t filling(unsigned page, unsigned offset) { return (uint8_t)(31 * page + 7 * offset + (offset >> 8) + 3); }
+
+static void fill(ulb_machine *x, uint32_t kind) {
+    static uint8_t rom[ULB_ROM_BYTES_128K], page[ULB_PAGE_BYTES];
+    size_t rom_len = kind == ULB_48K ? ULB_ROM_BYTES_48K : ULB_ROM_BYTES_128K;
+    for (size_t i = 0; i < rom_len; i++) rom[i] = filling(8 + (unsigned)(i / ULB_PAGE_BYTES), i % ULB_PAGE_BYTES);
+    CHECK("init", ulb_machine_init(x, kind, rom, rom_len), ULB_OK);
+    for (unsigned p = 0; p < (kind == ULB_48K ? 3 : 8); p++) {
+        for (unsigned i = 0; i < sizeof page; i++) page[i] = filling(p, i);
+        CHECK("load page", ulb_machine_load_page(x, page, sizeof page, p), ULB_OK);
+    }
+}
+
+/* The map's byte is the call's, in every block at its first and last two bytes, and at every `stride`th address. */
+static void same_at(int line, ulb_machine *x, unsigned stride) {
+    for (unsigned addr = 0; addr < 65536; addr++) {
+        unsigned offset = addr % ULB_PAGE_BYTES;
+        if (offset > 1 && offset < ULB_PAGE_BYTES - 2 && addr % stride != 0) continue;
+        ulb_number call = ulb_machine_read(x, (uint16_t)addr);
+        check_at(line, "the read is accepted", call.refusal, ULB_OK);
+        check_at(line, "the map's byte is the call's", ulb_machine_byte(x, (uint16_t)addr), (long)call.number);
+    }
+}
+#define SAME(x, stride) same_at(__LINE__, x, stride)
+
+/* At how many of the blocks' first bytes a map differs from the calls. */
+static unsigned wrong_blocks(const uint32_t *map) {
+    ulb_machine *x = &other; /* a copy of m, but with that map */
+    memcpy(x, &m, sizeof m);
+    memcpy(x->map, map, sizeof x->map);
+    unsigned wrong = 0;
+    for (unsigned block = 0; block < 4; block++) {
+        uint16_t addr = (uint16_t)(ULB_PAGE_BYTES * block);
+        wrong += ulb_machine_byte(x, addr) != ulb_machine_read(&m, addr).number;
+    }
+    return wrong;
+}
+
+int main(void) {
+    uint8_t fresh[ULB_STATE_BYTES];
+    uint32_t old[4];
+
+    /* 48K: nothing pages */
+    fill(&m, ULB_48K);
+    SAME(&m, 1);
+    CHECK("7FFD on 48K", ulb_machine_write_7ffd(&m, 0x17).number, ULB_WROTE_NOTHING);
+    SAME(&m, 97);
+    CHECK("port 7FFD on 48K", ulb_machine_write_io(&m, 0x7FFD, 0x17).value, ULB_WROTE_NOTHING);
+    SAME(&m, 97);
+
+    /* 128K: every 7FFD byte, by the call and by the port, each from a fresh record, since some lock */
+    fill(&m, ULB_128K);
+    memcpy(fresh, m.state, sizeof fresh);
+    SAME(&m, 1);
+    for (unsigned v = 0; v < 256; v++) {
+        CHECK("a fresh record", ulb_machine_load_state(&m, fresh, sizeof fresh), ULB_OK);
+        SAME(&m, 4999);
+        CHECK("paged", ulb_machine_write_7ffd(&m, (uint8_t)v).number, ULB_PAGED);
+        SAME(&m, 997);
+        CHECK("again", ulb_machine_write_io(&m, 0x7FFD, (uint8_t)(v ^ 7)).value, v & 0x20 ? ULB_LOCKED : ULB_PAGED);
+        SAME(&m, 997);
+    }
+
+    /* the test would see a map that is not made anew: after paging the old one is wrong at ROM and at C000h */
+    CHECK("a fresh record", ulb_machine_load_state(&m, fresh, sizeof fresh), ULB_OK);
+    memcpy(old, m.map, sizeof old);
+    CHECK("the map is right", wrong_blocks(old), 0);
+    CHECK("paged", ulb_machine_write_io(&m, 0x7FFD, 0x13).value, ULB_PAGED);
+    CHECK("the old map is wrong", wrong_blocks(old), 2);
+    CHECK("the new one is right", wrong_blocks(m.map), 0);
+
+    /* a locked write and a border write leave it; so do waits, reads, bytes written, a page loaded and refused calls */
+    CHECK("locks", ulb_machine_write_7ffd(&m, 0x36).number, ULB_PAGED);
+    memcpy(old, m.map, sizeof old);
+    CHECK("locked", ulb_machine_write_io(&m, 0x7FFD, 0).value, ULB_LOCKED);
+    CHECK("border", ulb_machine_write_io(&m, 0x00FE, 5).value, ULB_WROTE_BORDER);
+    CHECK("wait", ulb_machine_wait(&m, 60000).refusal, ULB_OK);
+    CHECK("a wait too long", ulb_machine_wait(&m, 65536).refusal, ULB_LONG_WAIT);
+    CHECK("port read", ulb_machine_read_io(&m, 0x40FF).refusal, ULB_OK);
+    for (unsigned addr = 0; addr < 65536; addr += 4093) {
+        CHECK("byte write", ulb_machine_write(&m, (uint16_t)addr, 0xA5), ULB_OK);
+        CHECK("is read", ulb_machine_byte(&m, (uint16_t)addr), addr < 0x4000 ? filling(9, addr) : 0xA5);
+    }
+    m.devices[24] = 2;
+    CHECK("a bad tape bit", ulb_machine_write_io(&m, 0x7FFD, 1).refusal, ULB_BAD_FLAG);
+    m.devices[24] = 1;
+    CHECK("the map stayed", memcmp(old, m.map, sizeof old), 0);
+    SAME(&m, 1);
+
+    /* a copy reads as the machine does, and its own bytes */
+    uint8_t mine = ulb_machine_byte(&m, 0xC000), its = (uint8_t)~mine;
+    memcpy(&other, &m, sizeof m);
+    CHECK("byte write", ulb_machine_write(&other, 0xC000, its), ULB_OK);
+    CHECK("the copy's", ulb_machine_byte(&other, 0xC000), its);
+    CHECK("the machine's", ulb_machine_byte(&m, 0xC000), mine);
+    SAME(&other, 997);
+
+    /* port_timing lends its scratch machine the record, and the map with it */
+    fill(&other, ULB_128K);
+    CHECK("port timing", ulb_machine_port_timing(&m, &other, 0x40FF).refusal, ULB_OK);
+    SAME(&other, 997);
+
+    /* records from outside: a sound one is taken with its paging, a bad one leaves record and map */
+    uint8_t record[ULB_STATE_BYTES];
+    memcpy(record, fresh, sizeof record);
+    record[17] = 0x14;
+    CHECK("loaded", ulb_machine_load_state(&m, record, sizeof record), ULB_OK);
+    CHECK("its 7FFD byte", ulb_machine_read_7ffd(&m).number, 0x14);
+    SAME(&m, 97);
+    memcpy(old, m.map, sizeof old);
+    record[14] = 32; /* no such flash phase */
+    CHECK("unsound", ulb_machine_load_state(&m, record, sizeof record), ULB_UNSOUND);
+    CHECK("short", ulb_machine_load_state(&m, fresh, sizeof fresh - 1), ULB_BAD_LENGTH);
+    memcpy(record, fresh, sizeof record);
+    record[5] = ULB_48K;
+    CHECK("another kind", ulb_machine_load_state(&m, record, sizeof record), ULB_BAD_LENGTH);
+    CHECK("its 7FFD byte", ulb_machine_read_7ffd(&m).number, 0x14);
+    CHECK("the map stayed", memcmp(old, m.map, sizeof old), 0);
+
+    /* a restart pages page 0 and ROM 0 in again */
+    CHECK("restart", ulb_machine_restart(&m), ULB_OK);
+    CHECK("ROM 0", ulb_machine_byte(&m, 0), filling(8, 0));
+    SAME(&m, 1);
+
+    printf("map: %u checks, %u failed\n", checks, failures);
+    return failures != 0;
+}
