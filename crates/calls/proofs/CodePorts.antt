@@ -58,12 +58,12 @@ module _ (t : Turn) (port n k : ℕ) (is : n ≡ partClocks (t .machine) (t .wor
   pub parts-ready : 1 ≤ k → Ready t 1 (n + 1)
   parts-ready one = let f = parts-few in ready-less t 1 (n + 1) k 28 r one (omega arith)
 
-  pub parts-turn : (u : Turn) → u ≡ ranBy (plainWait (n + 1)) t
+  pub parts-turn : (u : Turn) → u ≡ turned (tick (n + 1)) t
       → u ≡ turned (tick (partClocks (t .machine) (t .world .core .paging) port (t .world .core .clock) + 1)) t
-  unfolding ran
   parts-turn u e = e ∙ ap (λ (x : ℕ). turned (tick (x + 1)) t) is
 
   pub read-turn : (u : Turn) → u ≡ ranBy (plainWait (n + 1)) t → u ≡ ranBy (portRead (t .machine) port) t
+  unfolding ran
   read-turn u e = parts-turn u e ∙ sym (read-step t (r .inFrame) (r .inPlace) port)
 
   pub read-taken : (d : Devices) (x : ℕ) (a : Answer) → a ≡ readOrder d port
@@ -166,10 +166,9 @@ module _ (t u : Turn) (port k first last : ℕ)
       subst (λ (x : Turn). Ready x 1 (first + last + 1)) (sym inks)
       (ready-less _ 1 (first + last + 1) 2 28 (ready-inked t 2 28 (t .world .core .clock + first) k r) (omega arith) (omega arith))
 
-  pub border-turn : (v : Turn) → v ≡ ranBy (plainWait (first + last + 1)) u
+  pub border-turn : (v : Turn) → v ≡ turned (tick (first + last + 1)) u
       → v ≡ turned (tick (partClocks (t .machine) (t .world .core .paging) port (t .world .core .clock) + 1))
       (inkedAtClock (t .world .core .clock + firstClocks (t .machine) (t .world .core .paging) port (t .world .core .clock)) k t)
-  unfolding ran
   border-turn v e = e ∙ rw (inks, isLast, isFirst)
 
 -- a paging write's two steps around its act
@@ -181,22 +180,22 @@ module _ (t u : Turn) (port v first : ℕ) (r : Ready t 2 28)
   pub paging-ready : Ready t 1 first
   paging-ready = let f = paging-few in ready-less t 1 first 2 28 r (omega arith) (omega arith)
 
-  module _ (steps : u ≡ ranBy (plainWait first) t) where
+  module _ (steps : u ≡ turned (tick first) t) where
     before-ready : Ready u 1 21
     before-ready = let f = paging-few in ready-step t u 1 21 first steps (ready-less t 2 (21 + first) 2 28 r (omega arith) (omega arith))
 
     first-part : u ≡ ranBy (firstPart (t .machine) port) t
-    unfolding ran
     first-part = steps ∙ ap (λ (x : ℕ). turned (tick x) t) isFirst ∙ sym (first-step t (r .inFrame) (r .inPlace) port)
 
     same-paging : u .world .core .paging ≡ t .world .core .paging
-    unfolding ran turned
+    unfolding turned
     same-paging =
         let f = paging-few in
         ap (λ (x : Turn). x .world .core .paging) steps ∙ step-paging (t .machine) first (t .world) (omega arith) (r .inFrame)
 
     same-machine : u .machine ≡ t .machine
-    same-machine = left-machine (plainWait first) t u steps
+    unfolding turned
+    same-machine = ap (λ (x : Turn). x .machine) steps
 
     pub paging-code : (k : ℕ) → k ≡ pagedCode (write7ffd (u .machine) (u .world .core .paging) v)
         → k ≡ pagedCode (write7ffd (t .machine) (t .world .core .paging) v)
@@ -219,12 +218,11 @@ module _ (t u : Turn) (port v first : ℕ) (r : Ready t 2 28)
         pub acted-last : Ready x 1 (last + 1)
         acted-last = let f = paging-last in ready-less x 1 (last + 1) 1 21 acted-ready (omega arith) (omega arith)
 
-        last-part : (y : Turn) → y ≡ ranBy (plainWait (last + 1)) x → y ≡ ranBy (andThen (x .machine) (lastPart (x .machine) port) finalStep) x
-        unfolding ran
+        last-part : (y : Turn) → y ≡ turned (tick (last + 1)) x → y ≡ ranBy (andThen (x .machine) (lastPart (x .machine) port) finalStep) x
         last-part y e =
             e ∙ ap (λ (n : ℕ). turned (tick (n + 1)) x) isLast ∙ sym (last-final x (acted-ready .inFrame) (acted-ready .inPlace) port)
 
-        pub paging-turn : (y : Turn) → y ≡ ranBy (plainWait (last + 1)) x → y ≡ ranBy (pagedWrite (t .machine) port v) t
+        pub paging-turn : (y : Turn) → y ≡ turned (tick (last + 1)) x → y ≡ ranBy (pagedWrite (t .machine) port v) t
         paging-turn y e =
             follows (firstPart (t .machine) port) (λ m. andThen m (pagingWrite m v) (andThen m (lastPart m port) finalStep)) t u y first-part
             (follows (pagingWrite (u .machine) v) (λ m. andThen m (lastPart m port) finalStep) u x y acts (last-part y e))

@@ -180,7 +180,7 @@ fn write_quietly(
 {
     let bus = t.bus;
     let n = contention::part_clocks(bus, port);
-    steps::wait_internal(t, n + 1, ram, a, b, border)
+    steps::stepped(t, n + 1, ram, a, b, border)
 }
 
 // A border write: it acts at the clock that the first part ends at, and all its steps are one.
@@ -204,7 +204,7 @@ fn write_border(
     let acts = bus.clock + first;
     let last = contention::last_clocks(bus, acts, port);
     let inked = set_border_color(t, acts, color, border);
-    steps::wait_internal(inked, first + last + 1, ram, a, b, border)
+    steps::stepped(inked, first + last + 1, ram, a, b, border)
 }
 
 // A paging write: one step before it acts, so that what came before it is painted from the page that was shown, and one after.
@@ -224,13 +224,13 @@ fn write_paging(
 {
     let bus = t.bus;
     let first = contention::first_clocks(bus, port);
-    let before = steps::wait_internal(t, first, ram, a, b, border);
+    let before = steps::stepped(t, first, ram, a, b, border);
     let acted = write_7ffd(before, value);
     let code = acted.code;
     let turn = acted.turn;
     let bus = turn.bus;
     let last = contention::last_clocks(bus, bus.clock, port);
-    let turn = steps::wait_internal(turn, last + 1, ram, a, b, border);
+    let turn = steps::stepped(turn, last + 1, ram, a, b, border);
     WriteTurn { turn, code }
 }
 

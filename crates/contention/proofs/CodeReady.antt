@@ -175,8 +175,7 @@ ready-paging t u s c v e r =
     subst (λ (x : Turn). Ready x s c) (sym e) (repaged-ready (write7ffd (t .machine) (t .world .core .paging) v) t s c r)
 
 -- what a step leaves is ready for the steps that follow
-pub ready-step : (t u : Turn) (s c n : ℕ) → u ≡ ranBy (plainWait n) t → Ready t (s + 1) (c + n) → Ready u s c
-unfolding ran
+pub ready-step : (t u : Turn) (s c n : ℕ) → u ≡ turned (tick n) t → Ready t (s + 1) (c + n) → Ready u s c
 ready-step t u s c n e r =
     subst (λ (x : Turn). Ready x s c) (sym e) (ready-tick t s c (s + 1) (c + n) n r (omega arith) (omega arith))
 

@@ -26,20 +26,20 @@ last-clocks-requires c κs =
 set-border-color-requires : tie.Need-set-border-color-requires
 set-border-color-requires c κs = search needs
 
-add-wait-internal : tie.Need-add-wait-internal
-add-wait-internal c =
+add-stepped : tie.Need-add-stepped
+add-stepped c =
     let g = c .before .before .before .before .before .before .before .before .before .before .before .before .args in
     let t = turnOf (g .t) (now (g .ram)) (now (g .a)) (now (g .b)) (now (g .border)) in
     omega (arith, border-few t _ (g .port) (g .color) _ _ (c .before .before .before .before .before .before .first-clocks .ensures) (c .before .before .before .before .last-clocks .ensures) (c .before .before .set-border-color .ensures (now (g .ram)) (now (g .a)) (now (g .b))) (c .before .before .before .before .before .before .before .before .before .before .before .before .pre))
 
-add-wait-internal-2 : tie.Need-add-wait-internal-2
-add-wait-internal-2 c =
+add-stepped-2 : tie.Need-add-stepped-2
+add-stepped-2 c =
     let g = c .before .before .before .before .before .before .before .before .before .before .before .before .args in
     let t = turnOf (g .t) (now (g .ram)) (now (g .a)) (now (g .b)) (now (g .border)) in
     omega (arith, border-few t _ (g .port) (g .color) _ _ (c .before .before .before .before .before .before .first-clocks .ensures) (c .before .before .before .before .last-clocks .ensures) (c .before .before .set-border-color .ensures (now (g .ram)) (now (g .a)) (now (g .b))) (c .before .before .before .before .before .before .before .before .before .before .before .before .pre))
 
-wait-internal-requires : tie.Need-wait-internal-requires
-wait-internal-requires c κs =
+stepped-requires : tie.Need-stepped-requires
+stepped-requires c κs =
     let g = c .before .before .before .before .before .before .before .before .before .before .before .before .before .before .before .args in
     let t = turnOf (g .t) (now (g .ram)) (now (g .a)) (now (g .b)) (now (g .border)) in
     border-ready t _ (g .port) (g .color) _ _ (c .before .before .before .before .before .before .before .before .before .first-clocks .ensures) (c .before .before .before .before .before .before .before .last-clocks .ensures) (c .before .before .before .before .before .set-border-color .ensures (now (g .ram)) (now (g .a)) (now (g .b))) (c .before .before .before .before .before .before .before .before .before .before .before .before .before .before .before .pre)
@@ -57,7 +57,7 @@ returns : tie.Need-returns
 returns c =
     let g = c .before .before .before .before .before .before .before .before .before .before .before .before .before .before .before .before .before .before .before .before .before .before .args in
     let t = turnOf (g .t) (now (g .ram)) (now (g .a)) (now (g .b)) (now (g .border)) in
-    border-turn t _ (g .port) (g .color) _ _ (c .before .before .before .before .before .before .before .before .before .before .before .before .before .before .before .before .first-clocks .ensures) (c .before .before .before .before .before .before .before .before .before .before .before .before .before .before .last-clocks .ensures) (c .before .before .before .before .before .before .before .before .before .before .before .before .set-border-color .ensures (now (g .ram)) (now (g .a)) (now (g .b))) (c .before .before .before .before .before .before .before .before .before .before .before .before .before .before .before .before .before .before .before .before .before .before .pre) _ (c .before .before .before .before .before .before .wait-internal .ensures)
+    border-turn t _ (g .port) (g .color) _ _ (c .before .before .before .before .before .before .before .before .before .before .before .before .before .before .before .before .first-clocks .ensures) (c .before .before .before .before .before .before .before .before .before .before .before .before .before .before .last-clocks .ensures) (c .before .before .before .before .before .before .before .before .before .before .before .before .set-border-color .ensures (now (g .ram)) (now (g .a)) (now (g .b))) (c .before .before .before .before .before .before .before .before .before .before .before .before .before .before .before .before .before .before .before .before .before .before .pre) _ (c .before .before .before .before .before .before .stepped .ensures)
 
 pub write-border-spec : {M : Type 1} → statement M
 write-border-spec =
@@ -67,9 +67,9 @@ write-border-spec =
     add-acts
     last-clocks-requires
     set-border-color-requires
-    add-wait-internal
-    add-wait-internal-2
-    wait-internal-requires
+    add-stepped
+    add-stepped-2
+    stepped-requires
     same-length
     same-length-2
     same-length-3

@@ -9,8 +9,8 @@ use Rattle.calls.proofs.write_paging.Tie as tie
 first-clocks-requires : tie.Need-first-clocks-requires
 first-clocks-requires c κs = search needs
 
-wait-internal-requires : tie.Need-wait-internal-requires
-wait-internal-requires c κs =
+stepped-requires : tie.Need-stepped-requires
+stepped-requires c κs =
     let g = c .before .before .before .before .before .before .before .before .before .args in
     let t = turnOf (g .t) (now (g .ram)) (now (g .a)) (now (g .b)) (now (g .border)) in
     paging-ready t t (g .port) (g .value) _ (c .before .before .before .before .before .before .before .before .before .pre) (c .before .before .before .first-clocks .ensures)
@@ -22,19 +22,19 @@ last-clocks-requires : tie.Need-last-clocks-requires
 last-clocks-requires c κs =
     let g = c .before .before .before .before .before .before .before .before .before .before .before .before .before .before .before .before .before .before .before .args in
     let t = turnOf (g .t) (now (g .ram)) (now (g .a)) (now (g .b)) (now (g .border)) in
-    acted-inside t _ (g .port) (g .value) _ (c .before .before .before .before .before .before .before .before .before .before .before .before .before .before .before .before .before .before .before .pre) (c .before .before .before .before .before .before .before .before .before .before .before .before .before .first-clocks .ensures) (c .before .before .before .before .before .before .before .before .before .wait-internal .ensures) _ (c .before .before .write-7ffd .ensures .0 (now (g .ram)) _ _ _)
+    acted-inside t _ (g .port) (g .value) _ (c .before .before .before .before .before .before .before .before .before .before .before .before .before .before .before .before .before .before .before .pre) (c .before .before .before .before .before .before .before .before .before .before .before .before .before .first-clocks .ensures) (c .before .before .before .before .before .before .before .before .before .stepped .ensures) _ (c .before .before .write-7ffd .ensures .0 (now (g .ram)) _ _ _)
 
-add-wait-internal : tie.Need-add-wait-internal
-add-wait-internal c =
+add-stepped : tie.Need-add-stepped
+add-stepped c =
     let g = c .before .before .before .before .before .before .before .before .before .before .before .before .before .before .before .before .before .before .before .before .args in
     let t = turnOf (g .t) (now (g .ram)) (now (g .a)) (now (g .b)) (now (g .border)) in
-    omega (arith, paging-last t _ (g .port) (g .value) _ (c .before .before .before .before .before .before .before .before .before .before .before .before .before .before .before .before .before .before .before .before .pre) (c .before .before .before .before .before .before .before .before .before .before .before .before .before .before .first-clocks .ensures) (c .before .before .before .before .before .before .before .before .before .before .wait-internal .ensures) _ (c .before .before .before .write-7ffd .ensures .0 (now (g .ram)) _ _ _) _ (c .last-clocks .ensures))
+    omega (arith, paging-last t _ (g .port) (g .value) _ (c .before .before .before .before .before .before .before .before .before .before .before .before .before .before .before .before .before .before .before .before .pre) (c .before .before .before .before .before .before .before .before .before .before .before .before .before .before .first-clocks .ensures) (c .before .before .before .before .before .before .before .before .before .before .stepped .ensures) _ (c .before .before .before .write-7ffd .ensures .0 (now (g .ram)) _ _ _) _ (c .last-clocks .ensures))
 
-wait-internal-requires-2 : tie.Need-wait-internal-requires-2
-wait-internal-requires-2 c κs =
+stepped-requires-2 : tie.Need-stepped-requires-2
+stepped-requires-2 c κs =
     let g = c .before .before .before .before .before .before .before .before .before .before .before .before .before .before .before .before .before .before .before .before .before .before .before .args in
     let t = turnOf (g .t) (now (g .ram)) (now (g .a)) (now (g .b)) (now (g .border)) in
-    acted-last t _ (g .port) (g .value) _ (c .before .before .before .before .before .before .before .before .before .before .before .before .before .before .before .before .before .before .before .before .before .before .before .pre) (c .before .before .before .before .before .before .before .before .before .before .before .before .before .before .before .before .before .first-clocks .ensures) (c .before .before .before .before .before .before .before .before .before .before .before .before .before .wait-internal .ensures) _ (c .before .before .before .before .before .before .write-7ffd .ensures .0 (now (g .ram)) _ _ _) _ (c .before .before .before .last-clocks .ensures)
+    acted-last t _ (g .port) (g .value) _ (c .before .before .before .before .before .before .before .before .before .before .before .before .before .before .before .before .before .before .before .before .before .before .before .pre) (c .before .before .before .before .before .before .before .before .before .before .before .before .before .before .before .before .before .first-clocks .ensures) (c .before .before .before .before .before .before .before .before .before .before .before .before .before .stepped .ensures) _ (c .before .before .before .before .before .before .write-7ffd .ensures .0 (now (g .ram)) _ _ _) _ (c .before .before .before .last-clocks .ensures)
 
 same-length : tie.Need-same-length
 same-length c = search needs
@@ -49,8 +49,8 @@ returns : tie.Need-returns
 returns c =
     let g = c .before .before .before .before .before .before .before .before .before .before .before .before .before .before .before .before .before .before .before .before .before .before .before .before .before .before .before .before .before .before .args in
     let t = turnOf (g .t) (now (g .ram)) (now (g .a)) (now (g .b)) (now (g .border)) in (
-      paging-turn t _ (g .port) (g .value) _ (c .before .before .before .before .before .before .before .before .before .before .before .before .before .before .before .before .before .before .before .before .before .before .before .before .before .before .before .before .before .before .pre) (c .before .before .before .before .before .before .before .before .before .before .before .before .before .before .before .before .before .before .before .before .before .before .before .before .first-clocks .ensures) (c .before .before .before .before .before .before .before .before .before .before .before .before .before .before .before .before .before .before .before .before .wait-internal .ensures) _ (c .before .before .before .before .before .before .before .before .before .before .before .before .before .write-7ffd .ensures .0 (now (g .ram)) _ _ _) _ (c .before .before .before .before .before .before .before .before .before .before .last-clocks .ensures) _ (c .before .before .before .before .before .before .wait-internal2 .ensures),
-      paging-code t _ (g .port) (g .value) _ (c .before .before .before .before .before .before .before .before .before .before .before .before .before .before .before .before .before .before .before .before .before .before .before .before .before .before .before .before .before .before .pre) (c .before .before .before .before .before .before .before .before .before .before .before .before .before .before .before .before .before .before .before .before .before .before .before .before .first-clocks .ensures) (c .before .before .before .before .before .before .before .before .before .before .before .before .before .before .before .before .before .before .before .before .wait-internal .ensures) _ (c .before .before .before .before .before .before .before .before .before .before .before .before .before .write-7ffd .ensures .1),
+      paging-turn t _ (g .port) (g .value) _ (c .before .before .before .before .before .before .before .before .before .before .before .before .before .before .before .before .before .before .before .before .before .before .before .before .before .before .before .before .before .before .pre) (c .before .before .before .before .before .before .before .before .before .before .before .before .before .before .before .before .before .before .before .before .before .before .before .before .first-clocks .ensures) (c .before .before .before .before .before .before .before .before .before .before .before .before .before .before .before .before .before .before .before .before .stepped .ensures) _ (c .before .before .before .before .before .before .before .before .before .before .before .before .before .write-7ffd .ensures .0 (now (g .ram)) _ _ _) _ (c .before .before .before .before .before .before .before .before .before .before .last-clocks .ensures) _ (c .before .before .before .before .before .before .stepped2 .ensures),
+      paging-code t _ (g .port) (g .value) _ (c .before .before .before .before .before .before .before .before .before .before .before .before .before .before .before .before .before .before .before .before .before .before .before .before .before .before .before .before .before .before .pre) (c .before .before .before .before .before .before .before .before .before .before .before .before .before .before .before .before .before .before .before .before .before .before .before .before .first-clocks .ensures) (c .before .before .before .before .before .before .before .before .before .before .before .before .before .before .before .before .before .before .before .before .stepped .ensures) _ (c .before .before .before .before .before .before .before .before .before .before .before .before .before .write-7ffd .ensures .1),
     )
 
 pub write-paging-spec : {M : Type 1} → statement M
@@ -58,11 +58,11 @@ write-paging-spec =
     tie.close
     (tie.spec
     first-clocks-requires
-    wait-internal-requires
+    stepped-requires
     write-7ffd-requires
     last-clocks-requires
-    add-wait-internal
-    wait-internal-requires-2
+    add-stepped
+    stepped-requires-2
     same-length
     same-length-2
     same-length-3

@@ -12,14 +12,14 @@ part-clocks-requires c κs =
     let g = c .before .before .before .before .before .args in
     omega (arith, (c .before .before .before .before .before .pre) .inFrame, regular (g .t .bus .machine) .short)
 
-add-wait-internal : tie.Need-add-wait-internal
-add-wait-internal c =
+add-stepped : tie.Need-add-stepped
+add-stepped c =
     let g = c .before .before .before .before .before .before .args in
     let t = turnOf (g .t) (now (g .ram)) (now (g .a)) (now (g .b)) (now (g .border)) in
     omega (arith, parts-few t (g .port) _ 2 (c .part-clocks .ensures) (c .before .before .before .before .before .before .pre), (c .before .before .before .before .before .before .pre) .inFrame, regular (g .t .bus .machine) .short)
 
-wait-internal-requires : tie.Need-wait-internal-requires
-wait-internal-requires c κs =
+stepped-requires : tie.Need-stepped-requires
+stepped-requires c κs =
     let g = c .before .before .before .before .before .before .before .before .before .args in
     let t = turnOf (g .t) (now (g .ram)) (now (g .a)) (now (g .b)) (now (g .border)) in
     parts-ready t (g .port) _ 2 (c .before .before .before .part-clocks .ensures) (c .before .before .before .before .before .before .before .before .before .pre) (omega arith)
@@ -37,15 +37,15 @@ returns : tie.Need-returns
 returns c =
     let g = c .before .before .before .before .before .before .before .before .before .before .before .before .before .before .before .before .args in
     let t = turnOf (g .t) (now (g .ram)) (now (g .a)) (now (g .b)) (now (g .border)) in
-    parts-turn t (g .port) _ 2 (c .before .before .before .before .before .before .before .before .before .before .part-clocks .ensures) (c .before .before .before .before .before .before .before .before .before .before .before .before .before .before .before .before .pre) _ (c .before .before .before .before .before .before .wait-internal .ensures)
+    parts-turn t (g .port) _ 2 (c .before .before .before .before .before .before .before .before .before .before .part-clocks .ensures) (c .before .before .before .before .before .before .before .before .before .before .before .before .before .before .before .before .pre) _ (c .before .before .before .before .before .before .stepped .ensures)
 
 pub write-quietly-spec : {M : Type 1} → statement M
 write-quietly-spec =
     tie.close
     (tie.spec
     part-clocks-requires
-    add-wait-internal
-    wait-internal-requires
+    add-stepped
+    stepped-requires
     same-length
     same-length-2
     same-length-3
