@@ -23,18 +23,19 @@
  * Stack that a call needs, in bytes, its return address and arguments included, on x86-64: at most, and where no
  * catch-up goes by the constant table of offsets (docs/DUTIES.md, 15; made by tools/stack)
  *  at most  without the table
- *   13,344              1,016  ulb_read_io
- *   13,328              1,000  ulb_write_io
- *   12,880                552  ulb_wait_mreq, ulb_wait_no_mreq
- *   12,736                408  ulb_wait_internal
- *   12,432                184  ulb_still_picture
- *      216                     ulb_read_internal
- *      200                     ulb_block
- *      184                     ulb_load_page, ulb_ram_page, ulb_shown_picture
- *      168                     ulb_write_internal, ulb_write_7ffd
- *      152                     ulb_read_7ffd, ulb_int_active, ulb_frames_count
- *      136                     ulb_reset_frame_counter
+ *   12,880                568  ulb_write_io
+ *   12,576                264  ulb_read_io
+ *   12,544                232  ulb_wait_mreq, ulb_wait_no_mreq
+ *   12,528                216  ulb_wait_internal
+ *   12,432                176  ulb_still_picture
+ *      208                     ulb_read_internal
+ *      192                     ulb_block
+ *      176                     ulb_load_page, ulb_ram_page, ulb_shown_picture
+ *      160                     ulb_write_7ffd
+ *      144                     ulb_read_7ffd, ulb_int_active, ulb_frames_count
+ *      128                     ulb_reset_frame_counter
  *      104                     ulb_start
+ *       48                     ulb_write_internal
  *        8                     ulb_bitmap_line_addr, ulb_bitmap_line_rel, ulb_bitmap_col_rel, ulb_attr_row_rel,
  *                              ulb_attr_col_rel, ulb_color_from_bits
  * (end of stack)
