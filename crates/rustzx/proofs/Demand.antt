@@ -20,7 +20,7 @@ use Rattle.memory.specs.declared.Paged.{Paged}
 use Rattle.memory.specs.declared.Place.{Place}
 use Rattle.memory.specs.declared.Place.the-variants.{Rom, Ram}
 use Rattle.memory.specs.Paging as paging
-use Rattle.memory.specs.Paging.{bitSet, pageAt, pageExists}
+use Rattle.memory.specs.Paging.{bitSet, pageAt, pageExists, pagedCode}
 use Rattle.memory.specs.Memory.{placeOf, Holds, ramPage, pagePart}
 use Rattle.memory.proofs.Places.{map-holds}
 use Rattle.bus.specs.World.{World, started}
@@ -36,10 +36,10 @@ use Rattle.rustzx.specs.Panics.{Run, done, andThen, Ends}
 use Rattle.rustzx.specs.Machine.{specs}
 use Rattle.rustzx.specs.Memory.{ZXMemory, read, ramPageData, pageData, blockData}
 use Rattle.rustzx.specs.Controller as rust
-use Rattle.rustzx.specs.Controller.{ZXController, new, withRom}
+use Rattle.rustzx.specs.Controller.{ZXController, Reached, Wrote, new, withRom}
 use Rattle.rustzx.specs.Related.{memoryOf, Related}
 use Rattle.bus.specs.Pokes.{poking, byteWrite, pageLoad, passedReset}
-use Rattle.rustzx.specs.Calls.{Call, waitInternal, waitMreq, waitNoMreq, readIo, writeIo, readInternal, writeInternal, write7ffd, read7ffd, intActive, framesCount, resetFrameCounter, loadPage, ramPageOf, blockOf, screenBuffer, borderBuffer, Given, gives, acted, told, performed, partOf, answerOf, after, Accepted, Seen, allPerformed, allAnswers, afterAll, AllAccepted, TimedByRust}
+use Rattle.rustzx.specs.Calls.{Call, waitInternal, waitMreq, waitNoMreq, readIo, writeIo, readInternal, writeInternal, write7ffd, read7ffd, intActive, framesCount, resetFrameCounter, loadPage, ramPageOf, blockOf, screenBuffer, borderBuffer, Given, reachedCode, pagingCode, gives, acted, wrote, told, performed, partOf, answerOf, after, Accepted, Seen, allPerformed, allAnswers, afterAll, AllAccepted, TimedByRust}
 use Rattle.rustzx.proofs.Timing.{frame-is, interrupt-is}
 use Rattle.rustzx.proofs.Pages.{read-is, bank-type-is, page-data-is}
 use Rattle.rustzx.proofs.Steps.{unpass-related}
@@ -68,6 +68,17 @@ module _ (m : ZXMachine) (rom : List ℕ) where
         value = gives (e .value) [];
         ends = ap acted (e .ends);
         holds = (refl, to-ran f (e .value) w (e .holds));
+      }
+
+  -- a write, whom it reached by its code
+  wrote-ends : (f : Part) (w : World) (code : Reached → ℕ) (n : ℕ) (x : Run Wrote)
+      → Ends x (λ y. (code (y .reached) ≡ n) × Related m rom (y .controller) (behind m f w))
+      → Ends (wrote code x) (λ g. (g .answer ≡ n ∷ []) × Related m rom (g .controller) (ranBy f (fresh m w) .world))
+  wrote-ends f w code n x e =
+      record {
+        value = gives (e .value .controller) (code (e .value .reached) ∷ []);
+        ends = ap (wrote code) (e .ends);
+        holds = (ap (λ (k : ℕ). k ∷ []) (e .holds .0), to-ran f (e .value .controller) w (e .holds .1));
       }
 
   -- a call that tells bytes and changes nothing
@@ -127,7 +138,8 @@ module _ (m : ZXMachine) (rom : List ℕ) (c : ZXController) (w : World) (r : Re
         ends = ap (λ (x : Run rust.Answered). andThen x (λ y. done (gives (y .controller) (y .value ∷ [])))) (e .ends);
         holds = (ap (λ (v : ℕ). v ∷ []) (e .holds .0), to-ran m rom (portRead m port) _ w (e .holds .1));
       }
-  call-agrees (writeIo d port value) s a = acted-ends m rom (portWrite m d port value) w _ (write-follows m rom d port value c w r)
+  call-agrees (writeIo d port value) s a =
+      wrote-ends m rom (portWrite m d port value) w reachedCode _ (rust.writeIo d port value c) (write-follows m rom d port value c w r)
   call-agrees (readInternal addr) s a =
       record {
         value = gives c (rust.readInternal addr c ∷ []);
@@ -135,7 +147,9 @@ module _ (m : ZXMachine) (rom : List ℕ) (c : ZXController) (w : World) (r : Re
         holds = (ap (λ (v : ℕ). v ∷ []) (ap (λ (mem : ZXMemory). read mem addr) (r .memory) ∙ read-is m rom (w .core) addr), stays m rom c w r);
       }
   call-agrees (writeInternal addr value) s a = acted-ends m rom (byteWrite m addr value) w _ (poke-related m rom c w addr value r)
-  call-agrees (write7ffd value) s a = acted-ends m rom (pagingWrite m value) w _ (paging-related m rom c w value r)
+  call-agrees (write7ffd value) s a =
+      subst (λ (n : ZXMachine). Ends (wrote (pagingCode n) (rust.write7ffd value c)) (λ g. (g .answer ≡ pagedCode (paging.write7ffd m (w .core .paging) value) ∷ []) × Related m rom (g .controller) (after m (write7ffd value) w))) (sym (r .machine))
+      (wrote-ends m rom (pagingWrite m value) w (pagingCode m) _ (rust.write7ffd value c) (paging-related m rom c w value r))
   call-agrees read7ffd s a =
       record { value = gives c (c .currentPort7ffd ∷ []); ends = refl; holds = (ap (λ (v : ℕ). v ∷ []) (r .port), stays m rom c w r) }
   call-agrees intActive s a =

@@ -1,12 +1,13 @@
 -- The waits, the port read and the port write of the Rust, part by part, are document 01's.
 -- Assumes nothing.
 use mathlib.Core.Path.{_≡_, refl, sym, ap, ap₂, _∙_, subst}
-use mathlib.Core.Bool.{Bool, true, false, cond, _&&_}
+use mathlib.Core.Bool.{Bool, true, false, cond, _&&_, false≢true}
 use mathlib.Core.List.{List, [], _∷_, _++_}
 use Prim.Native.Nat.{ℕ, _+_, _%_, _<_}
 use native.Mathlib.Nat.{add-zero}
 use native.Mathlib.Omega.{arith}
 use lib.Bits.{bitAnd, and-mask}
+use Rattle.laws.proofs.Cases.{and-right}
 use Rattle.machine.specs.declared.ZXMachine.{ZXMachine}
 use Rattle.machine.specs.declared.ZXMachine.the-variants.{Sinclair48K, Sinclair128K}
 use Rattle.machine.specs.Numbers.{specsOf}
@@ -15,24 +16,27 @@ use Rattle.machine.specs.Contended.{portContended}
 use Rattle.screen.specs.declared.ZXColor.{ZXColor}
 use Rattle.screen.specs.Color.{colorOf}
 use Rattle.screen.proofs.RoundTrips.{number-then-color}
+use Rattle.memory.specs.Paging.{write7ffd, pagedCode}
 use Rattle.ports.specs.declared.Devices.{Devices}
 use Rattle.ports.specs.declared.Extender.{Extender}
 use Rattle.ports.specs.declared.Extender.the-variants as extender
 use Rattle.ports.specs.declared.Written.{Written}
 use Rattle.ports.specs.declared.Written.the-variants as written
-use Rattle.ports.specs.Order.{readOrder, classC000, class8000, evenPort, pagingPort, claims, has7ffd, portOrder, writeOrder}
+use Rattle.ports.specs.Order.{readOrder, classC000, class8000, evenPort, pagingPort, claims, has7ffd, portOrder, writeOrder, writtenCode}
 use Rattle.bus.specs.World.{Core, World}
-use Rattle.bus.specs.Time.{Op, colour, does, worldAfter}
+use Rattle.bus.specs.Time.{Op, does, worldAfter}
 use Rattle.bus.specs.Turns.{Part, andThen, coreAfter}
-use Rattle.bus.specs.Calls.{contended, plainWait, delayed, addressWait, firstPart, heldStep, lastPart, finalStep, readBefore, portRead, answered, readValue, actedOn, portWrite}
+use Rattle.bus.specs.Calls.{contended, plainWait, delayed, addressWait, firstPart, heldStep, lastPart, finalStep, readBefore, portRead, answered, readValue, actedOn, portWrite, writeCode}
 use Rattle.bus.proofs.Runs.{world-core}
 use Rattle.rustzx.specs.Panics as run
 use Rattle.rustzx.specs.Panics.{Run, done, Ends}
 use Rattle.rustzx.specs.Machine.{contentionClocks, portIsContended}
 use Rattle.rustzx.specs.Memory.{ZXMemory, getPage}
 use Rattle.rustzx.specs.Colors.{fromBits}
-use Rattle.rustzx.specs.Controller.{ZXController, pageIsContended, addrIsContended, waitInternal, doContentionAndWait, doContention, contendedFirst, ioContentionFirst, ioContentionLast, setBorderColor, waitMreq, readIo, is128K, borderOrPaging, extenderWrite, writeIo}
+use Rattle.rustzx.specs.Controller as rust
+use Rattle.rustzx.specs.Controller.{ZXController, pageIsContended, addrIsContended, waitInternal, doContentionAndWait, doContention, contendedFirst, ioContentionFirst, ioContentionLast, setBorderColor, toExtender, toAySelect, toAyWrite, toBorder, toNobody, Reached, Wrote, reaches, waitMreq, readIo, is128K, extenderWrite, writeIo}
 use Rattle.rustzx.specs.Related.{Related}
+use Rattle.rustzx.specs.Calls.{reachedCode, pagingCode}
 use Rattle.rustzx.proofs.Timing.{contention-is, port-is}
 use Rattle.rustzx.proofs.Helpers.{from-bits-done, color-byte-is}
 use Rattle.rustzx.proofs.Pages.{contended-is}
@@ -138,65 +142,82 @@ module _ (m : ZXMachine) (rom : List ℕ) where
         );
       }
 
-  -- ---- the port write
-  abbrev pub EndsBehind : Part → (ZXController → Run ZXController) → Type 0
-  EndsBehind f g = (c : ZXController) (w : World) → Related m rom c w → Ends (g c) (λ c′. Related m rom c′ (behind m f w))
+  -- ---- the port write: whom the Rust reached has the code of who hears it, and what it leaves is what hearing does
+  abbrev Hears : Written → ℕ → World → Run Wrote → Type 0
+  Hears f v w x =
+      Ends x (λ y. (reachedCode (y .reached) ≡ writtenCode f (pagedCode (write7ffd m (w .core .paging) v))) × Related m rom (y .controller) (behind m (actedOn m f v) w))
 
-  nothing-ends : EndsBehind (λ c. []) done
+  -- nothing of the bus hears it: an extender, an AY or nobody
+  unheard : (who : Reached) (f : Written) (v : ℕ) (c : ZXController) (w : World) → Related m rom c w → actedOn m f v (w .core) ≡ []
+      → reachedCode who ≡ writtenCode f (pagedCode (write7ffd m (w .core .paging) v)) → Hears f v w (done (reaches who c))
   unfolding worldAfter
-  nothing-ends c w r = record { value = c; ends = refl; holds = r }
+  unheard who f v c w r none e = record { value = reaches who c; ends = refl; holds = (e, rw none r) }
 
   -- the border: from_bits of three bits never panics
-  border-ends : (v : ℕ) → EndsBehind (λ c. colour (v % 8) ∷ []) (λ c. run.andThen (fromBits (bitAnd v 0x07)) (λ color. done (setBorderColor (c .frameClocks) color c)))
+  border-hears : (v : ℕ) (c : ZXController) (w : World) → Related m rom c w
+      → Hears written.Border v w (run.andThen (fromBits (bitAnd v 0x07)) (λ color. done (reaches toBorder (setBorderColor (c .frameClocks) color c))))
   unfolding worldAfter
-  border-ends v c w r =
+  border-hears v c w r =
       let h : v % 8 < 8 = omega arith in
       record {
-        value = setBorderColor (c .frameClocks) (colorOf (v % 8)) c;
-        ends = ap (λ (x : Run ZXColor). run.andThen x (λ color. done (setBorderColor (c .frameClocks) color c))) (ap fromBits (and-mask v 3) ∙ from-bits-done (v % 8) h);
-        holds = colour-related m rom c w (colorOf (v % 8)) (v % 8) (color-byte-is (colorOf (v % 8)) ∙ number-then-color (v % 8) (omega arith) .1) r;
+        value = reaches toBorder (setBorderColor (c .frameClocks) (colorOf (v % 8)) c);
+        ends = ap (λ (x : Run ZXColor). run.andThen x (λ color. done (reaches toBorder (setBorderColor (c .frameClocks) color c)))) (ap fromBits (and-mask v 3) ∙ from-bits-done (v % 8) h);
+        holds = (refl, colour-related m rom c w (colorOf (v % 8)) (v % 8) (color-byte-is (colorOf (v % 8)) ∙ number-then-color (v % 8) (omega arith) .1) r);
       }
 
-  pick-ends : (v : ℕ) (c : ZXController) (w : World) (t : Bool) {x y : Run ZXController} (f g : Written)
-      → Ends x (λ c′. Related m rom c′ (behind m (actedOn m f v) w)) → Ends y (λ c′. Related m rom c′ (behind m (actedOn m g v) w))
-      → Ends (cond t x y) (λ c′. Related m rom c′ (behind m (actedOn m (cond t f g) v) w))
-  pick-ends v c w true f g p q = p
-  pick-ends v c w false f g p q = q
+  -- paging: on a machine that has it, the code is the number that the 7FFD write answers
+  has-paging : (n : ZXMachine) (who : Reached) → has7ffd n ≡ true → reachedCode who ≡ pagingCode n who
+  has-paging Sinclair48K who e = absurd (false≢true e)
+  has-paging Sinclair128K who e = refl
+
+  paging-hears : (v : ℕ) (c : ZXController) (w : World) → Related m rom c w → has7ffd m ≡ true → Hears written.Paging v w (rust.write7ffd v c)
+  paging-hears v c w r has =
+      let e = paging-related m rom c w v r in
+      record { value = e .value; ends = e .ends; holds = (has-paging m (e .value .reached) has ∙ e .holds .0, e .holds .1) }
+
+  pick-hears : (v : ℕ) (w : World) (t : Bool) {x y : Run Wrote} (f g : Written) → (t ≡ true → Hears f v w x) → Hears g v w y → Hears (cond t f g) v w (cond t x y)
+  pick-hears v w true f g p q = p refl
+  pick-hears v w false f g p q = q
 
   has-is : (n : ZXMachine) → is128K n ≡ has7ffd n
   has-is Sinclair48K = refl
   has-is Sinclair128K = refl
 
   -- who hears the write, in the Rust's order
-  order-ends : (port v : ℕ) → EndsBehind (actedOn m (portOrder m port) v) (borderOrPaging port v)
+  order-hears : (port v : ℕ) (c : ZXController) (w : World) → Related m rom c w → Hears (portOrder m port) v w (rust.portWrite port v c)
   unfolding portOrder
-  order-ends port v c w r =
+  order-hears port v c w r =
       rw (port-is m port, ap is128K (r .machine) ∙ has-is m)
-      (pick-ends v c w (classC000 port) written.AySelect _ (nothing-ends c w r)
-      (pick-ends v c w (class8000 port) written.AyWrite _ (nothing-ends c w r)
-      (pick-ends v c w (evenPort port) written.Border _ (border-ends v c w r)
-      (pick-ends v c w (pagingPort port && has7ffd m) written.Paging written.Nothing (paging-related m rom c w v r) (nothing-ends c w r)))))
+      (pick-hears v w (classC000 port) written.AySelect _ (λ t. unheard toAySelect written.AySelect v c w r refl refl)
+      (pick-hears v w (class8000 port) written.AyWrite _ (λ t. unheard toAyWrite written.AyWrite v c w r refl refl)
+      (pick-hears v w (evenPort port) written.Border _ (λ t. border-hears v c w r)
+      (pick-hears v w (pagingPort port && has7ffd m) written.Paging written.Nothing (λ t. paging-hears v c w r (and-right (pagingPort port) (has7ffd m) t))
+      (unheard toNobody written.Nothing v c w r refl refl)))))
 
-  acted-ends : (x : Extender) (port v : ℕ) → EndsBehind (actedOn m (cond (claims x) written.Extender (portOrder m port)) v) (extenderWrite x port v)
-  acted-ends (extender.Present own) port v = nothing-ends
-  acted-ends extender.Absent port v = order-ends port v
+  extender-hears : (x : Extender) (port v : ℕ) (c : ZXController) (w : World) → Related m rom c w
+      → Hears (cond (claims x) written.Extender (portOrder m port)) v w (extenderWrite x port v c)
+  extender-hears (extender.Present own) port v c w r = unheard toExtender written.Extender v c w r refl refl
+  extender-hears extender.Absent port v c w r = order-hears port v c w r
 
-  -- WRITE_IO: it does not panic, acts where the port write acts, and takes its steps.
-  pub write-follows : (d : Devices) (port v : ℕ) → EndsBehind (portWrite m d port v) (writeIo d port v)
-  unfolding writeIo
+  -- WRITE_IO: it does not panic, acts where the port write acts, and takes its steps; and whom it reached gives the write's code.
+  pub write-follows : (d : Devices) (port v : ℕ) (c : ZXController) (w : World) → Related m rom c w
+      → Ends (writeIo d port v c) (λ x. (reachedCode (x .reached) ≡ writeCode m d port v (w .core)) × Related m rom (x .controller) (behind m (portWrite m d port v) w))
+  unfolding writeIo writeCode
   write-follows d port v c w r =
       let c₁ : ZXController = ioContentionFirst port c in
       let w₁ : World = behind m (firstPart m port) w in
-      let a = acted-ends (d .extender) port v c₁ w₁ (first-follows port c w r) in
+      let a = extender-hears (d .extender) port v c₁ w₁ (first-follows port c w r) in
       let acts : Part = actedOn m (writeOrder m d port) v in
       let w₂ : World = behind m acts w₁ in
-      let end = then-follows (lastPart m port) finalStep (ioContentionLast port) (waitInternal 1) (last-follows port) (plain-follows 1) (a .value) w₂ (a .holds) in
+      let end = then-follows (lastPart m port) finalStep (ioContentionLast port) (waitInternal 1) (last-follows port) (plain-follows 1) (a .value .controller) w₂ (a .holds .1) in
       record {
-        value = waitInternal 1 (ioContentionLast port (a .value));
-        ends = ap (λ (x : Run ZXController). run.andThen x (λ acted. done (waitInternal 1 (ioContentionLast port acted)))) (a .ends);
-        holds =
-            subst (Related m rom (waitInternal 1 (ioContentionLast port (a .value))))
-            (sym (behind-then m (firstPart m port) (andThen m acts (andThen m (lastPart m port) finalStep)) w
-            ∙ behind-then m acts (andThen m (lastPart m port) finalStep) w₁))
-            end;
+        value = reaches (a .value .reached) (waitInternal 1 (ioContentionLast port (a .value .controller)));
+        ends = ap (λ (x : Run Wrote). run.andThen x (λ acted. done (reaches (acted .reached) (waitInternal 1 (ioContentionLast port (acted .controller)))))) (a .ends);
+        holds = (
+          a .holds .0 ∙ ap (λ (x : Core). writtenCode (writeOrder m d port) (pagedCode (write7ffd m (x .paging) v))) (world-core m (firstPart m port (w .core)) w),
+          subst (Related m rom (waitInternal 1 (ioContentionLast port (a .value .controller))))
+              (sym (behind-then m (firstPart m port) (andThen m acts (andThen m (lastPart m port) finalStep)) w
+              ∙ behind-then m acts (andThen m (lastPart m port) finalStep) w₁))
+              end,
+        );
       }

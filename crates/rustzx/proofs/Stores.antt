@@ -18,7 +18,7 @@ use Rattle.memory.specs.declared.Page.{Page}
 use Rattle.memory.specs.declared.Page.the-variants as page
 use Rattle.memory.specs.declared.Paged.{Paged}
 use Rattle.memory.specs.Paging as paging
-use Rattle.memory.specs.Paging.{bitSet, memoryMap, pageAt, shownPage, pageExists}
+use Rattle.memory.specs.Paging.{bitSet, memoryMap, pageAt, shownPage, pageExists, pagedCode}
 use Rattle.memory.specs.Memory.{placeIn, placeOf, poked, ramPage, loaded}
 use Rattle.memory.proofs.Places.{map-holds, exists-fits}
 use Rattle.memory.proofs.Stored.{length-loaded}
@@ -28,27 +28,28 @@ use Rattle.bus.specs.Calls.{repaged, pagingWrite}
 use Rattle.rustzx.specs.Panics.{Run, done, andThen, each, Ends}
 use Rattle.rustzx.specs.Memory.{ZXMemory, getPage, write, loadPage}
 use Rattle.rustzx.specs.Screen.{ScreenBank, ZXScreen, LocalBank, some, none, localBank, withActive, switchTo, switchBank, withBank, updateIn, update}
-use Rattle.rustzx.specs.Controller.{ZXController, withMemory, withPaging, newScreenBank, remapped, stillEnabled, write7ffd, updated, writeInternal, refreshByte, refreshPage, refreshed, loadAndRefresh}
+use Rattle.rustzx.specs.Controller.{ZXController, withMemory, withPaging, toPaging, Wrote, reaches, newScreenBank, remapped, stillEnabled, write7ffd, updated, writeInternal, refreshByte, refreshPage, refreshed, loadAndRefresh}
 use Rattle.rustzx.specs.Related.{Mirrors, Mirrored, activeOf, SameScreen, memoryOf, Related}
 use Rattle.bus.specs.Pokes.{poking, byteWrite}
+use Rattle.rustzx.specs.Calls.{reachedCode, pagingCode}
 use Rattle.rustzx.proofs.Loops.{each-last}
 use Rattle.rustzx.proofs.Screens.{banks-screen}
 use Rattle.rustzx.proofs.Pages.{write-is, remap-is, page-data-is, load-is}
 use Rattle.rustzx.proofs.Banks.{put, update-is, put-mirrors, putAll, all-mirrors}
 
 -- ---- the 7FFD write
-locked : (v : ℕ) (c : ZXController) → c .pagingEnabled ≡ false → write7ffd v c ≡ done c
+locked : (v : ℕ) (c : ZXController) → c .pagingEnabled ≡ false → write7ffd v c ≡ done (reaches (toPaging false) c)
 unfolding write7ffd
 locked v c e = rw e
 
 opened : (v : ℕ) (c : ZXController) (mem : ZXMemory) → c .pagingEnabled ≡ true → remapped v (c .memory) ≡ done mem
     → write7ffd v c
-    ≡ done (withPaging mem (switchBank (c .machine) (newScreenBank v) (c .screen)) (stillEnabled v (c .pagingEnabled)) (newScreenBank v) v c)
+    ≡ done (reaches (toPaging true) (withPaging mem (switchBank (c .machine) (newScreenBank v) (c .screen)) (stillEnabled v (c .pagingEnabled)) (newScreenBank v) v c))
 unfolding write7ffd
 opened v c mem e f =
-    let next : ZXMemory → Run ZXController =
-    λ x. done (withPaging x (switchBank (c .machine) (newScreenBank v) (c .screen)) (stillEnabled v (c .pagingEnabled)) (newScreenBank v) v c) in
-    ap (λ (t : Bool). cond (not t) (done c) (andThen (remapped v (c .memory)) next)) e ∙ ap (λ (r : Run ZXMemory). andThen r next) f
+    let next : ZXMemory → Run Wrote =
+    λ x. done (reaches (toPaging true) (withPaging x (switchBank (c .machine) (newScreenBank v) (c .screen)) (stillEnabled v (c .pagingEnabled)) (newScreenBank v) v c)) in
+    ap (λ (t : Bool). cond (not t) (done (reaches (toPaging false) c)) (andThen (remapped v (c .memory)) next)) e ∙ ap (λ (r : Run ZXMemory). andThen r next) f
 
 turned : {A : Type 0} (t : Bool) (x y : A) → cond (not t) x y ≡ cond t y x
 turned true x y = refl
@@ -86,7 +87,8 @@ module _ (rom : List ℕ) (c : ZXController) (w : World) (v : ℕ) (r : Related 
         mirrored = r .screen .mirrored;
       })
 
-  taken : bitSet 5 (w .core .paging) ≡ false → Ends (write7ffd v c) (λ c′. Related Sinclair128K rom c′ (does Sinclair128K (paged v) w))
+  taken : bitSet 5 (w .core .paging) ≡ false
+      → Ends (write7ffd v c) (λ x. (reachedCode (x .reached) ≡ 5) × Related Sinclair128K rom (x .controller) (does Sinclair128K (paged v) w))
   unfolding inCore inScreen inEdge
   taken e =
       let enabled : c .pagingEnabled ≡ true = r .enabled ∙ ap not e in
@@ -95,31 +97,35 @@ module _ (rom : List ℕ) (c : ZXController) (w : World) (v : ℕ) (r : Related 
         ends = opened v c (record { rom = rom; ram = w .core .ram; map = memoryMap Sinclair128K v }) enabled
             (ap (remapped v) (r .memory)
             ∙ remap-is rom (w .core .ram) (w .core .paging) v (r .romLong) (r .ramLong));
-        holds = record {
-          machine = r .machine;
-          memory = refl;
-          screen = repaged-screen;
-          border = r .border;
-          reported = r .reported;
-          clock = r .clock;
-          passed = r .passed;
-          enabled = lock-is v (c .pagingEnabled) enabled;
-          bank = bank-is v;
-          port = refl;
-          ramLong = r .ramLong;
-          romLong = r .romLong;
-          inStep = record { phase = r .inStep .phase; painted = r .inStep .painted; atEnd = r .inStep .atEnd; noPairs = r .inStep .noPairs };
-        };
+        holds = (
+          refl,
+          record {
+            machine = r .machine;
+            memory = refl;
+            screen = repaged-screen;
+            border = r .border;
+            reported = r .reported;
+            clock = r .clock;
+            passed = r .passed;
+            enabled = lock-is v (c .pagingEnabled) enabled;
+            bank = bank-is v;
+            port = refl;
+            ramLong = r .ramLong;
+            romLong = r .romLong;
+            inStep = record { phase = r .inStep .phase; painted = r .inStep .painted; atEnd = r .inStep .atEnd; noPairs = r .inStep .noPairs };
+          },
+        );
       }
 
--- write_7ffd does to the Rust what the 7FFD write's operations do to the world: nothing on 48K and where it is locked.
+-- write_7ffd does to the Rust what the 7FFD write's operations do to the world, nothing on 48K and where it is locked; and whether paging was
+-- enabled gives the number that the 7FFD write answers.
 pub paging-related : (m : ZXMachine) (rom : List ℕ) (c : ZXController) (w : World) (v : ℕ) → Related m rom c w
-    → Ends (write7ffd v c) (λ c′. Related m rom c′ (worldAfter m (pagingWrite m v (w .core)) w))
+    → Ends (write7ffd v c) (λ x. (pagingCode m (x .reached) ≡ pagedCode (paging.write7ffd m (w .core .paging) v)) × Related m rom (x .controller) (worldAfter m (pagingWrite m v (w .core)) w))
 unfolding paging.write7ffd worldAfter
-paging-related Sinclair48K rom c w v r = record { value = c; ends = locked v c (r .enabled); holds = r }
+paging-related Sinclair48K rom c w v r = record { value = reaches (toPaging false) c; ends = locked v c (r .enabled); holds = (refl, r) }
 paging-related Sinclair128K rom c w v r =
-    by-bool (λ (p : Paged). Ends (write7ffd v c) (λ c′. Related Sinclair128K rom c′ (worldAfter Sinclair128K (repaged p) w))) (bitSet 5 (w .core .paging))
-    (λ e. record { value = c; ends = locked v c (r .enabled ∙ ap not e); holds = r }) (λ e. taken rom c w v r e)
+    by-bool (λ (p : Paged). Ends (write7ffd v c) (λ x. (reachedCode (x .reached) ≡ pagedCode p) × Related Sinclair128K rom (x .controller) (worldAfter Sinclair128K (repaged p) w))) (bitSet 5 (w .core .paging))
+    (λ e. record { value = reaches (toPaging false) c; ends = locked v c (r .enabled ∙ ap not e); holds = (refl, r) }) (λ e. taken rom c w v r e)
 
 -- ---- one byte of RAM, seen by page
 page-same : (p rel v : ℕ) (ram : List ℕ) → rel < 16384 → ramPage p (set ram (16384 * p + rel) v) ≡ set (ramPage p ram) rel v

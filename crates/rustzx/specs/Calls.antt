@@ -2,26 +2,27 @@
 -- Assumes nothing.
 use Prim.Native.Nat.{ℕ, _+_, _<_, _≤_}
 use mathlib.Core.Path.{_≡_}
-use mathlib.Core.Bool.{Bool, true, cond}
+use mathlib.Core.Bool.{Bool, true, false, cond}
 use mathlib.Core.List.{List, [], _∷_}
 use lib.Dec.{leb}
 use lib.ListN.{length}
 use Rattle.machine.specs.declared.ZXMachine.{ZXMachine}
 use Rattle.machine.specs.Timing.{interrupt}
 use Rattle.record.specs.Record.{flagByte}
-use Rattle.memory.specs.Paging.{pageAt, pageExists}
+use Rattle.memory.specs.Paging as paging
+use Rattle.memory.specs.Paging.{pageAt, pageExists, pagedCode}
 use Rattle.memory.specs.Memory.{byteAt, ramPage, pagePart}
 use Rattle.ports.specs.declared.Devices.{Devices}
 use Rattle.bus.specs.World.{World}
 use Rattle.bus.specs.Time.{shownPicture}
 use Rattle.bus.specs.Turns.{Part, fresh, ranBy}
-use Rattle.bus.specs.Calls.{plainWait, addressWait, portRead, readValue, pagingWrite, portWrite}
+use Rattle.bus.specs.Calls.{plainWait, addressWait, portRead, readValue, pagingWrite, portWrite, writeCode}
 use Rattle.rustzx.specs.Panics.{Run, done, andThen}
 use Rattle.rustzx.specs.Machine.{specs}
 use Rattle.rustzx.specs.Memory.{ramPageData, blockData}
 use Rattle.rustzx.specs.Screen.{blockIndex}
 use Rattle.rustzx.specs.Controller as rust
-use Rattle.rustzx.specs.Controller.{ZXController}
+use Rattle.rustzx.specs.Controller.{ZXController, Reached, Wrote}
 use Rattle.bus.specs.Pokes.{byteWrite, pageLoad, passedReset}
 
 -- the calls, each by its name in the Rust, with its arguments; `shownPicture` and `border` are the two `frame_buffer`s
@@ -44,7 +45,21 @@ pub data Call : Type 0 where
   screenBuffer : Call
   borderBuffer : Call
 
--- what a call answers, as bytes and numbers: none, one, a page's 16,384 or a picture's
+-- "with its code": "extender 1; C000h class 2; 8000h class 3; even port, border 4; .. paged 5 or locked 6; else 0", by whom the Rust reached
+abbrev pub reachedCode : Reached → ℕ
+reachedCode rust.toExtender = 1
+reachedCode rust.toAySelect = 2
+reachedCode rust.toAyWrite = 3
+reachedCode rust.toBorder = 4
+reachedCode (rust.toPaging true) = 5
+reachedCode (rust.toPaging false) = 6
+reachedCode rust.toNobody = 0
+
+-- "The 7FFD write answers 5, 6, or on 48K 0": 48K is the machine that ZXController::new starts with paging not enabled
+abbrev pub pagingCode : ZXMachine → Reached → ℕ
+pagingCode m who = cond (rust.paged m) (reachedCode who) 0
+
+-- what a call answers, as bytes and numbers: none, one, a page's 16,384 or a picture's; a write, the code of whom it reached
 pub record Given : Type 0 where
   pub controller : ZXController
   pub answer : List ℕ
@@ -56,6 +71,9 @@ gives c answer = record { controller = c; answer = answer }
 abbrev pub acted : Run ZXController → Run Given
 acted r = andThen r (λ c. done (gives c []))
 
+abbrev pub wrote : (Reached → ℕ) → Run Wrote → Run Given
+wrote code r = andThen r (λ w. done (gives (w .controller) (code (w .reached) ∷ [])))
+
 abbrev pub told : ZXController → Run (List ℕ) → Run Given
 told c r = andThen r (λ answer. done (gives c answer))
 
@@ -64,10 +82,10 @@ performed (waitInternal n) c = done (gives (rust.waitInternal n c) [])
 performed (waitMreq addr n) c = done (gives (rust.waitMreq addr n c) [])
 performed (waitNoMreq addr n) c = done (gives (rust.waitNoMreq addr n c) [])
 performed (readIo d port) c = andThen (rust.readIo d port c) (λ a. done (gives (a .controller) (a .value ∷ [])))
-performed (writeIo d port value) c = acted (rust.writeIo d port value c)
+performed (writeIo d port value) c = wrote reachedCode (rust.writeIo d port value c)
 performed (readInternal addr) c = done (gives c (rust.readInternal addr c ∷ []))
 performed (writeInternal addr value) c = acted (rust.writeInternal addr value c)
-performed (write7ffd value) c = acted (rust.write7ffd value c)
+performed (write7ffd value) c = wrote (pagingCode (c .machine)) (rust.write7ffd value c)
 performed read7ffd c = done (gives c (c .currentPort7ffd ∷ []))
 performed intActive c = done (gives c (flagByte (rust.intActive c) ∷ []))
 performed framesCount c = done (gives c (c .passedFrames ∷ []))
@@ -106,10 +124,10 @@ answerOf m rom (waitInternal n) w = []
 answerOf m rom (waitMreq addr n) w = []
 answerOf m rom (waitNoMreq addr n) w = []
 answerOf m rom (readIo d port) w = readValue m d port (w .core) ∷ []
-answerOf m rom (writeIo d port value) w = []
+answerOf m rom (writeIo d port value) w = writeCode m d port value (w .core) ∷ []
 answerOf m rom (readInternal addr) w = byteAt m (w .core .paging) rom (w .core .ram) addr ∷ []
 answerOf m rom (writeInternal addr value) w = []
-answerOf m rom (write7ffd value) w = []
+answerOf m rom (write7ffd value) w = pagedCode (paging.write7ffd m (w .core .paging) value) ∷ []
 answerOf m rom read7ffd w = w .core .paging ∷ []
 answerOf m rom intActive w = flagByte (interrupt (w .core .clock)) ∷ []
 answerOf m rom framesCount w = w .core .passed ∷ []

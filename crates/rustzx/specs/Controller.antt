@@ -153,6 +153,23 @@ ioContentionLast port c =
     (doContention (doContentionAndWait 1 (doContentionAndWait 1 c)))
     (waitInternal 2 c))
 
+-- who a port write reached: the arm of write_io that ran, and of write_7ffd whether paging was enabled
+pub data Reached : Type 0 where
+  toExtender : Reached
+  toAySelect : Reached
+  toAyWrite : Reached
+  toBorder : Reached
+  toPaging : Bool → Reached
+  toNobody : Reached
+
+-- a write leaves a state, and who was reached stands beside it
+pub record Wrote : Type 0 where
+  pub controller : ZXController
+  pub reached : Reached
+
+abbrev pub reaches : Reached → ZXController → Wrote
+reaches who c = record { controller = c; reached = who }
+
 -- fn write_7ffd
 abbrev pub newScreenBank : ℕ → ℕ
 newScreenBank val = cond (eqb (bitAnd val 0x08) 0) 5 7
@@ -165,11 +182,11 @@ remapped val mem = andThen (remap mem 3 (Ram (bitAnd val 0x07))) (λ top. remap 
 abbrev pub stillEnabled : ℕ → Bool → Bool
 stillEnabled val enabled = cond (not (eqb (bitAnd val 0x20) 0)) false enabled
 
-unfoldable pub write7ffd : ℕ → ZXController → Run ZXController
+unfoldable pub write7ffd : ℕ → ZXController → Run Wrote
 write7ffd val c =
-    cond (not (c .pagingEnabled)) (done c)
+    cond (not (c .pagingEnabled)) (done (reaches (toPaging false) c))
     (andThen (remapped val (c .memory)) (λ mem.
-    done (withPaging mem (switchBank (c .machine) (newScreenBank val) (c .screen)) (stillEnabled val (c .pagingEnabled)) (newScreenBank val) val c)))
+    done (reaches (toPaging true) (withPaging mem (switchBank (c .machine) (newScreenBank val) (c .screen)) (stillEnabled val (c .pagingEnabled)) (newScreenBank val) val c))))
 
 -- fn set_border_color
 abbrev pub setBorderColor : ℕ → ZXColor → ZXController → ZXController
@@ -244,20 +261,21 @@ abbrev pub is128K : ZXMachine → Bool
 is128K Sinclair48K = false
 is128K Sinclair128K = true
 
-abbrev pub borderOrPaging : ℕ → ℕ → ZXController → Run ZXController
-borderOrPaging port byte c =
-    cond (eqb (bitAnd port 0xC002) 0xC000) (done c)
-    (cond (eqb (bitAnd port 0xC002) 0x8000) (done c)
-    (cond (eqb (bitAnd port 0x0001) 0) (andThen (fromBits (bitAnd byte 0x07)) (λ color. done (setBorderColor (c .frameClocks) color c)))
-    (cond (eqb (bitAnd port 0x8002) 0 && is128K (c .machine)) (write7ffd byte c) (done c))))
+abbrev pub portWrite : ℕ → ℕ → ZXController → Run Wrote
+portWrite port byte c =
+    cond (eqb (bitAnd port 0xC002) 0xC000) (done (reaches toAySelect c))
+    (cond (eqb (bitAnd port 0xC002) 0x8000) (done (reaches toAyWrite c))
+    (cond (eqb (bitAnd port 0x0001) 0) (andThen (fromBits (bitAnd byte 0x07)) (λ color. done (reaches toBorder (setBorderColor (c .frameClocks) color c))))
+    (cond (eqb (bitAnd port 0x8002) 0 && is128K (c .machine)) (write7ffd byte c) (done (reaches toNobody c)))))
 
-abbrev pub extenderWrite : Extender → ℕ → ℕ → ZXController → Run ZXController
-extenderWrite (extender.Present own) port byte c = done c
-extenderWrite extender.Absent port byte c = borderOrPaging port byte c
+abbrev pub extenderWrite : Extender → ℕ → ℕ → ZXController → Run Wrote
+extenderWrite (extender.Present own) port byte c = done (reaches toExtender c)
+extenderWrite extender.Absent port byte c = portWrite port byte c
 
-unfoldable pub writeIo : Devices → ℕ → ℕ → ZXController → Run ZXController
+unfoldable pub writeIo : Devices → ℕ → ℕ → ZXController → Run Wrote
 writeIo d port byte c =
-    andThen (extenderWrite (d .extender) port byte (ioContentionFirst port c)) (λ acted. done (waitInternal 1 (ioContentionLast port acted)))
+    andThen (extenderWrite (d .extender) port byte (ioContentionFirst port c))
+    (λ acted. done (reaches (acted .reached) (waitInternal 1 (ioContentionLast port (acted .controller)))))
 
 -- fn int_active
 abbrev pub intActive : ZXController → Bool

@@ -112,7 +112,7 @@ module _ (rom : List ℕ) (c : ZXController) (l : Lent) (s : SameLent rom c l) w
       record {
         given = move .given;
         ends = move .ends;
-        answer = tt;
+        answer = x .1;
         leaves = record-call (withPaging (pagingAfter (paging.write7ffd m (bus .paging) value) (bus .paging)) bus) _ (x .0) (move .given) (move .sound) (move .related);
       }
   one-call (read7ffd answer) t z =

@@ -24,7 +24,6 @@ use Rattle.bus.proofs.Runs.{ran-world}
 use Rattle.bus.proofs.Kept.{SoundWorld}
 use Rattle.answers.specs.declared.Verdict.{Verdict}
 use Rattle.answers.specs.declared.Verdict.the-variants.{Accepted}
-use Rattle.answers.specs.Answers.{numberAnswer}
 use Rattle.answers.specs.Judges.{judgeState, judgeTold, judgeRead, judgeWrite, judgeLoad, judgeRamPage, judgeBlock, judgeShown}
 use Rattle.answers.proofs.Accepted.{ready-state, ready-told, ready-read, ready-write, ready-load, ready-ram-page, ready-block, ready-shown}
 use Rattle.contracts.specs.Plain as ulb
@@ -161,17 +160,18 @@ module _ (bus : Bus) (ram a b border rom : List ℕ) (c : ZXController) (r : Rel
   repaged-is paging.Locked = refl
   repaged-is (paging.Taken v) = refl
 
-  -- ULB_WRITE_7FFD is write_7ffd, of a byte; its code is document 01's.
+  -- ULB_WRITE_7FFD is write_7ffd, of a byte; its number is 5 or 6 by whether the Rust's paging was enabled, and 0 on 48K.
   pub write-7ffd-same : (state : List ℕ) (value : ℕ) (answer : List ℕ) → value < 256 → judgeTold state (length answer) ≡ Accepted bus
       → (ulb.write7ffdCall state value answer .state ≡ recordBytes (withPaging (pagingAfter (write7ffd m (bus .paging) value) (bus .paging)) bus))
-      × (ulb.write7ffdCall state value answer .answer ≡ numberAnswer (pagedCode (write7ffd m (bus .paging) value)))
+      × SameTold (rust.write7ffd value) c (ulb.told (ulb.write7ffdCall state value answer .code) (ulb.write7ffdCall state value answer .answer))
       × SameMove m rom (rust.write7ffd value) c (worldOf (withPaging (pagingAfter (write7ffd m (bus .paging) value) (bus .paging)) bus) ram a b border)
-  unfolding ulb.write7ffdCall partOf
+  unfolding ulb.write7ffdCall partOf answerOf
   write-7ffd-same state value answer byte e =
+      let sound = ready-told state bus (length answer) e .onRecord .sound in
+      let number : Bus → ℕ = λ x. pagedCode (write7ffd (x .machine) (x .paging) value) in
       rw e (
         refl,
-        refl,
-        same-move (rust.write7ffd value) (worldOf (withPaging (pagingAfter (write7ffd m (bus .paging) value) (bus .paging)) bus) ram a b border)
-            (ready-told state bus (length answer) e .onRecord .sound) byte
+        same-told (rust.write7ffd value) number answer (Accepted bus) refl sound byte refl,
+        same-move (rust.write7ffd value) (worldOf (withPaging (pagingAfter (write7ffd m (bus .paging) value) (bus .paging)) bus) ram a b border) sound byte
             (ran-world (pagingWrite m value (w .core)) (fresh m w) ∙ repaged-is (write7ffd m (bus .paging) value)),
       )

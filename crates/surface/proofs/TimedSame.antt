@@ -29,7 +29,7 @@ use Rattle.rustzx.specs.Related.{Related}
 use Rattle.rustzx.specs.Calls.{Call, waitInternal, waitMreq, waitNoMreq, readIo, writeIo, Given, partOf, answerOf}
 use Rattle.rustzx.specs.Calls as rust
 use Rattle.rustzx.proofs.Demand.{call-agrees, kept, reports-agree}
-use Rattle.surface.specs.Same.{NoValue, ItsValue, ItsCode, SameTimed}
+use Rattle.surface.specs.Same.{NoValue, ItsValue, SameTimed}
 
 module _ (l : Lent) (bus : Bus) (rom : List ℕ) (c : ZXController) (r : Related (bus .machine) rom c (lentWorld bus l)) where
   abbrev m : ZXMachine
@@ -107,11 +107,11 @@ module _ (l : Lent) (bus : Bus) (rom : List ℕ) (c : ZXController) (r : Related
       same-timed (readIo (devicesOf devices) port) ItsValue (λ k. portRead k port) (λ k. readValue k (devicesOf devices) port) answer (judgePortOf l devices answer) e
       (read-timed m port) refl (h .onRecord .sound) (tape-small devices (h .flags), h .room) (λ g q. q)
 
-  -- ULB_WRITE_IO is write_io, with a byte for its value.
+  -- ULB_WRITE_IO is write_io, with a byte for its value; its code among the answer's bytes is that of whom write_io reached.
   pub write-same : (devices : List ℕ) (port value : ℕ) (answer : List ℕ) → value < 256 → judgePortOf l devices answer ≡ Accepted bus
-      → SameTimed m rom (writeIo (devicesOf devices) port value) (ItsCode (writeCode m (devicesOf devices) port value (w .core))) c (ulb.writeIo l devices port value answer)
-  unfolding ulb.writeIo partOf
+      → SameTimed m rom (writeIo (devicesOf devices) port value) ItsValue c (ulb.writeIo l devices port value answer)
+  unfolding ulb.writeIo partOf answerOf
   write-same devices port value answer byte e =
       let h = ready-port (l .state) bus devices (length (l .ram)) (length (l .a)) (length (l .b)) (length (l .border)) (length answer) e in
-      same-timed (writeIo (devicesOf devices) port value) (ItsCode (writeCode m (devicesOf devices) port value (w .core))) (λ k. portWrite k (devicesOf devices) port value) (λ k. writeCode k (devicesOf devices) port value) answer (judgePortOf l devices answer) e
-      (write-timed m (devicesOf devices) port value byte) refl (h .onRecord .sound) (byte, h .room) (λ g q. refl)
+      same-timed (writeIo (devicesOf devices) port value) ItsValue (λ k. portWrite k (devicesOf devices) port value) (λ k. writeCode k (devicesOf devices) port value) answer (judgePortOf l devices answer) e
+      (write-timed m (devicesOf devices) port value byte) refl (h .onRecord .sound) (byte, h .room) (λ g q. q)

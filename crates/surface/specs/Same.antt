@@ -34,15 +34,12 @@ pub record SameStart (machine : ℕ) (rom : List ℕ) (s : Started) : Type 0 whe
   pub named : machineNumber (machineOf machine) ≡ machine
   pub leaves : SameLent rom (withRom rom (new (machineOf machine))) (s .slices)
 
--- "value or code (0 for a wait)": a read's value is the Rust's answer; a write's code is document 01's own, as the Rust answers a write nothing
+-- "value or code (0 for a wait)": a read's value is the Rust's answer, and a write's code the code of whom the Rust reached
 abbrev pub NoValue : Given → ℕ → Type 0
 NoValue g value = value ≡ 0
 
 abbrev pub ItsValue : Given → ℕ → Type 0
 ItsValue g value = g .answer ≡ value ∷ []
-
-abbrev pub ItsCode : ℕ → Given → ℕ → Type 0
-ItsCode code g value = value ≡ code
 
 -- an accepted timed call: the Rust's call ends; the slices hold, byte for byte, a world that is related to what the Rust then holds, clock, RAM,
 -- both pictures and border among it; and the ten bytes of the answer are the Rust's
