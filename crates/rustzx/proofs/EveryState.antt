@@ -8,8 +8,8 @@ use Prim.Native.Nat.{ℕ, _*_, _/_, _%_, _<_}
 use native.Mathlib.Nat.{mod-eq-of-lt}
 use native.Mathlib.Omega.{arith}
 use lib.ListN.{length, replicate, length-replicate}
-use Rattle.machine.specs.declared.ZXMachine.{ZXMachine}
-use Rattle.machine.specs.declared.ZXMachine.the-variants.{Sinclair48K, Sinclair128K}
+use Rattle.machine.specs.declared.ZXMachine as ours
+use Rattle.machine.specs.declared.ZXMachine.the-variants as our
 use Rattle.machine.specs.Numbers.{specsOf}
 use Rattle.screen.specs.Color.{colorOf}
 use Rattle.screen.proofs.RoundTrips.{number-then-color}
@@ -18,11 +18,12 @@ use Rattle.memory.specs.Memory.{ramPage}
 use Rattle.bus.specs.World.{World}
 use Rattle.bus.specs.Time.{flashOn, shownPicture, hiddenPicture}
 use Rattle.bus.proofs.Kept.{SoundWorld}
+use Rattle.rustzx.specs.Machine.{ZXMachine, Sinclair48K, Sinclair128K}
 use Rattle.rustzx.specs.Colors.{colorByte}
 use Rattle.rustzx.specs.Screen.{ZXScreen, blackAttribute, newBank}
 use Rattle.rustzx.specs.Border.{ZXBorder}
 use Rattle.rustzx.specs.Controller.{ZXController}
-use Rattle.rustzx.specs.Related.{Mirrors, Mirrored, activeOf, memoryOf, pagingOpen, Related}
+use Rattle.rustzx.specs.Related.{ourMachine, Mirrors, Mirrored, activeOf, memoryOf, pagingOpen, Related}
 use Rattle.rustzx.proofs.Helpers.{color-byte-is}
 use Rattle.rustzx.proofs.Banks.{putAll, all-mirrors}
 use Rattle.rustzx.proofs.Steps.{sound-in-step}
@@ -66,7 +67,7 @@ rustOf m rom w =
       frameClocks = w .core .clock;
       passedFrames = w .core .passed;
       pagingEnabled = pagingOpen m (w .core .paging);
-      screenBank = shownPage m (w .core .paging);
+      screenBank = shownPage (ourMachine m) (w .core .paging);
       currentPort7ffd = w .core .paging;
     }
 
@@ -87,8 +88,13 @@ banks Sinclair128K w = (filled (ramPage 5 (w .core .ram)), filled (ramPage 7 (w 
 color-back : (n : ℕ) → n < 8 → colorByte (colorOf n) ≡ n
 color-back n h = color-byte-is (colorOf n) ∙ number-then-color n (omega arith) .1
 
+-- Our machines are the Rust's two. This is the one statement that a further machine of ours, of which the Rust has no state, would end.
+pub every-machine : (m : ours.ZXMachine) → (z : ZXMachine) × (ourMachine z ≡ m)
+every-machine our.Sinclair48K = (Sinclair48K, refl)
+every-machine our.Sinclair128K = (Sinclair128K, refl)
+
 -- EVERY SOUND WORLD IS THAT OF A STATE OF THE RUST.
-pub every-state : (m : ZXMachine) (rom : List ℕ) (w : World) → SoundWorld m w → length (w .core .ram) ≡ specsOf m .ram → length rom ≡ specsOf m .rom
+pub every-state : (m : ZXMachine) (rom : List ℕ) (w : World) → SoundWorld (ourMachine m) w → length (w .core .ram) ≡ specsOf (ourMachine m) .ram → length rom ≡ specsOf (ourMachine m) .rom
     → Related m rom (rustOf m rom w) w
 every-state m rom w s ram-long rom-long =
     record {
@@ -119,5 +125,5 @@ every-state m rom w s ram-long rom-long =
       port = refl;
       ramLong = ram-long;
       romLong = rom-long;
-      inStep = sound-in-step m w s;
+      inStep = sound-in-step (ourMachine m) w s;
     }

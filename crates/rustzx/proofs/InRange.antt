@@ -8,8 +8,6 @@ use native.Mathlib.Omega.{arith}
 use lib.Dec.{lit<}
 use lib.ListN.{length}
 use Rattle.laws.proofs.Cases.{by-bool}
-use Rattle.machine.specs.declared.ZXMachine.{ZXMachine}
-use Rattle.machine.specs.declared.ZXMachine.the-variants.{Sinclair48K, Sinclair128K}
 use Rattle.machine.specs.declared.BorderPlace.{BorderPlace}
 use Rattle.machine.specs.declared.BorderPlace.the-variants.{At, FrameEnd}
 use Rattle.machine.specs.Numbers.{specsOf}
@@ -25,11 +23,12 @@ use Rattle.memory.specs.Memory.{Holds}
 use Rattle.memory.proofs.Places.{map-holds}
 use Rattle.offsets.specs.Offset.{lineStart}
 use Rattle.bus.specs.World.{World}
+use Rattle.rustzx.specs.Machine.{ZXMachine, Sinclair48K, Sinclair128K}
 use Rattle.rustzx.specs.Memory.{ZXMemory, pageSize, getPage}
 use Rattle.rustzx.specs.Screen.{fromClocks, blockIndex, activeBankOf}
 use Rattle.rustzx.specs.Border.{nextBorderPixel, screenWidth}
 use Rattle.rustzx.specs.Controller.{ZXController, floatingColumn}
-use Rattle.rustzx.specs.Related.{memoryOf, activeOf, Related}
+use Rattle.rustzx.specs.Related.{ourMachine, memoryOf, activeOf, Related}
 use Rattle.rustzx.proofs.Timing.{blocks-are, nextOf, border-is}
 use Rattle.rustzx.proofs.Screens.{active-mirrors}
 
@@ -38,7 +37,7 @@ abbrev pub Inside : ZXMemory → Page → ℕ → Type 0
 Inside mem (page.Rom p) offset = p * pageSize + offset < length (mem .rom)
 Inside mem (page.Ram p) offset = p * pageSize + offset < length (mem .ram)
 
-four : (m : ZXMachine) (paging : ℕ) → length (memoryMap m paging) ≡ 4
+four : (m : ZXMachine) (paging : ℕ) → length (memoryMap (ourMachine m) paging) ≡ 4
 four Sinclair48K paging = refl
 four Sinclair128K paging = refl
 
@@ -57,8 +56,8 @@ module _ (m : ZXMachine) (rom : List ℕ) (c : ZXController) (w : World) (r : Re
   pub byte-in-range : (addr : ℕ) → Inside (c .memory) (getPage (c .memory) addr) (addr % pageSize)
   byte-in-range addr =
       rw (r .memory)
-      (held-inside (memoryOf m rom (w .core)) (pageAt m (w .core .paging) (addr / 16384)) (addr % 16384) (omega arith)
-      (rw (r .romLong, r .ramLong) (map-holds m (w .core .paging) (addr / 16384))))
+      (held-inside (memoryOf m rom (w .core)) (pageAt (ourMachine m) (w .core .paging) (addr / 16384)) (addr % 16384) (omega arith)
+      (rw (r .romLong, r .ramLong) (map-holds (ourMachine m) (w .core .paging) (addr / 16384))))
 
   -- passed_from: no difference goes below 0, whichever arm is taken, at any clock that wait_internal comes to
   pub passed-in-range : (n : ℕ)
@@ -67,7 +66,7 @@ module _ (m : ZXMachine) (rom : List ℕ) (c : ZXController) (w : World) (r : Re
   passed-in-range n =
       let t : ℕ = w .core .clock + n in
       let e = blocks-are m t in
-      let up = blocks-mono (specsOf m) (regular m .wide) (w .core .clock) t (omega arith) in
+      let up = blocks-mono (specsOf (ourMachine m)) (regular (ourMachine m) .wide) (w .core .clock) t (omega arith) in
       let old = r .inStep .painted in
       let at = r .screen .position in
       (r .screen .columns, rw (r .clock) (λ same. omega (arith, e .lines, e .columns)))
@@ -78,7 +77,7 @@ module _ (m : ZXMachine) (rom : List ℕ) (c : ZXController) (w : World) (r : Re
   blocks-in-range n k h =
       let mi = active-mirrors m (c .screen) (w .core .paging) (w .core .ram) (r .screen .active) (r .screen .mirrored) in
       let e = blocks-are m (c .frameClocks + n) in
-      let small = position-small (specsOf m) (c .frameClocks + n) in
+      let small = position-small (specsOf (ourMachine m)) (c .frameClocks + n) in
       let l : k < 6144 = omega (arith, e .lines, e .columns) in
       (rw (mi .bitmapLong) l, rw (mi .attributesLong) (omega arith))
 
@@ -102,7 +101,7 @@ next-small (At line pixel) i = omega (arith, i)
 next-small FrameEnd i = omega arith
 
 pub fills-in-range : (m : ZXMachine) (t : ℕ) → nextBorderPixel m t .line * screenWidth + nextBorderPixel m t .pixel ≤ 76800
-fills-in-range m t = rw (border-is m t) (next-small (borderAt (specsOf m) t) (border-within (specsOf m) t))
+fills-in-range m t = rw (border-is m t) (next-small (borderAt (specsOf (ourMachine m)) t) (border-within (specsOf (ourMachine m)) t))
 
 -- the floating bus: the address that it reads fits 16 bits
 pub floating-in-range : (row r : ℕ) → row < 192 → r < 124 → (0x4000 + lineStart row + floatingColumn r < 65536) × (0x5800 + (row / 8 * 32 + floatingColumn r) < 65536)

@@ -10,8 +10,6 @@ use lib.Dec.{eqb}
 use lib.ListN.{length, getD, set, drop, length-set, length-drop}
 use lib.Seq.{take-set-le, take-set-lt, drop-set-lt, drop-set-add, length-take-le}
 use Rattle.laws.proofs.Cases.{by-bool, by-eq, split}
-use Rattle.machine.specs.declared.ZXMachine.{ZXMachine}
-use Rattle.machine.specs.declared.ZXMachine.the-variants.{Sinclair48K, Sinclair128K}
 use Rattle.machine.specs.Numbers.{specsOf}
 use Rattle.screen.proofs.OneBit.{mask-bit}
 use Rattle.memory.specs.declared.Page.{Page}
@@ -25,11 +23,12 @@ use Rattle.memory.proofs.Stored.{length-loaded}
 use Rattle.bus.specs.World.{Core, Screen, World}
 use Rattle.bus.specs.Time.{paged, poke, load, inCore, inScreen, inEdge, does, worldAfter}
 use Rattle.bus.specs.Calls.{repaged, pagingWrite}
+use Rattle.rustzx.specs.Machine.{ZXMachine, Sinclair48K, Sinclair128K}
 use Rattle.rustzx.specs.Panics.{Run, done, andThen, each, Ends}
 use Rattle.rustzx.specs.Memory.{ZXMemory, getPage, write, loadPage}
 use Rattle.rustzx.specs.Screen.{ScreenBank, ZXScreen, LocalBank, some, none, localBank, withActive, switchTo, switchBank, withBank, updateIn, update}
 use Rattle.rustzx.specs.Controller.{ZXController, withMemory, withPaging, toPaging, Wrote, reaches, newScreenBank, remapped, stillEnabled, write7ffd, updated, writeInternal, refreshByte, refreshPage, refreshed, loadAndRefresh}
-use Rattle.rustzx.specs.Related.{Mirrors, Mirrored, activeOf, SameScreen, memoryOf, Related}
+use Rattle.rustzx.specs.Related.{ourMachine, Mirrors, Mirrored, activeOf, SameScreen, memoryOf, Related}
 use Rattle.bus.specs.Pokes.{poking, byteWrite}
 use Rattle.rustzx.specs.Calls.{reachedCode, pagingCode}
 use Rattle.rustzx.proofs.Loops.{each-last}
@@ -55,7 +54,7 @@ turned : {A : Type 0} (t : Bool) (x y : A) → cond (not t) x y ≡ cond t y x
 turned true x y = refl
 turned false x y = refl
 
-bank-is : (v : ℕ) → newScreenBank v ≡ shownPage Sinclair128K v
+bank-is : (v : ℕ) → newScreenBank v ≡ shownPage (ourMachine Sinclair128K) v
 bank-is v = rw (mask-bit 3 v) (turned (bitSet 3 v) 5 7)
 
 lock-is : (v : ℕ) (t : Bool) → t ≡ true → stillEnabled v t ≡ not (bitSet 5 v)
@@ -72,7 +71,7 @@ switch-is : (v : ℕ) (s : ZXScreen) → switchBank Sinclair128K (newScreenBank 
 switch-is v s = ap (λ (b : ℕ). switchTo (localBank Sinclair128K b) s) (bank-is v) ∙ switched (bitSet 3 v) s
 
 module _ (rom : List ℕ) (c : ZXController) (w : World) (v : ℕ) (r : Related Sinclair128K rom c w) where
-  repaged-screen : SameScreen Sinclair128K (switchBank (c .machine) (newScreenBank v) (c .screen)) (inCore Sinclair128K (paged v) (w .core)) (w .screen)
+  repaged-screen : SameScreen Sinclair128K (switchBank (c .machine) (newScreenBank v) (c .screen)) (inCore (ourMachine Sinclair128K) (paged v) (w .core)) (w .screen)
   unfolding inCore
   repaged-screen =
       rw (r .machine, switch-is v (c .screen))
@@ -88,13 +87,13 @@ module _ (rom : List ℕ) (c : ZXController) (w : World) (v : ℕ) (r : Related 
       })
 
   taken : bitSet 5 (w .core .paging) ≡ false
-      → Ends (write7ffd v c) (λ x. (reachedCode (x .reached) ≡ 5) × Related Sinclair128K rom (x .controller) (does Sinclair128K (paged v) w))
+      → Ends (write7ffd v c) (λ x. (reachedCode (x .reached) ≡ 5) × Related Sinclair128K rom (x .controller) (does (ourMachine Sinclair128K) (paged v) w))
   unfolding inCore inScreen inEdge
   taken e =
       let enabled : c .pagingEnabled ≡ true = r .enabled ∙ ap not e in
       record {
         value = _;
-        ends = opened v c (record { rom = rom; ram = w .core .ram; map = memoryMap Sinclair128K v }) enabled
+        ends = opened v c (record { rom = rom; ram = w .core .ram; map = memoryMap (ourMachine Sinclair128K) v }) enabled
             (ap (remapped v) (r .memory)
             ∙ remap-is rom (w .core .ram) (w .core .paging) v (r .romLong) (r .ramLong));
         holds = (
@@ -120,11 +119,11 @@ module _ (rom : List ℕ) (c : ZXController) (w : World) (v : ℕ) (r : Related 
 -- write_7ffd does to the Rust what the 7FFD write's operations do to the world, nothing on 48K and where it is locked; and whether paging was
 -- enabled gives the number that the 7FFD write answers.
 pub paging-related : (m : ZXMachine) (rom : List ℕ) (c : ZXController) (w : World) (v : ℕ) → Related m rom c w
-    → Ends (write7ffd v c) (λ x. (pagingCode m (x .reached) ≡ pagedCode (paging.write7ffd m (w .core .paging) v)) × Related m rom (x .controller) (worldAfter m (pagingWrite m v (w .core)) w))
+    → Ends (write7ffd v c) (λ x. (pagingCode m (x .reached) ≡ pagedCode (paging.write7ffd (ourMachine m) (w .core .paging) v)) × Related m rom (x .controller) (worldAfter (ourMachine m) (pagingWrite (ourMachine m) v (w .core)) w))
 unfolding paging.write7ffd worldAfter
 paging-related Sinclair48K rom c w v r = record { value = reaches (toPaging false) c; ends = locked v c (r .enabled); holds = (refl, r) }
 paging-related Sinclair128K rom c w v r =
-    by-bool (λ (p : Paged). Ends (write7ffd v c) (λ x. (reachedCode (x .reached) ≡ pagedCode p) × Related Sinclair128K rom (x .controller) (worldAfter Sinclair128K (repaged p) w))) (bitSet 5 (w .core .paging))
+    by-bool (λ (p : Paged). Ends (write7ffd v c) (λ x. (reachedCode (x .reached) ≡ pagedCode p) × Related Sinclair128K rom (x .controller) (worldAfter (ourMachine Sinclair128K) (repaged p) w))) (bitSet 5 (w .core .paging))
     (λ e. record { value = reaches (toPaging false) c; ends = locked v c (r .enabled ∙ ap not e); holds = (refl, r) }) (λ e. taken rom c w v r e)
 
 -- ---- one byte of RAM, seen by page
@@ -193,14 +192,14 @@ module _ (m : ZXMachine) (rom : List ℕ) (c : ZXController) (w : World) (addr v
   abbrev rel : ℕ
   rel = addr % 16384
 
-  written : write (c .memory) addr v ≡ record { rom = rom; ram = poked m (w .core .paging) (w .core .ram) addr v; map = memoryMap m (w .core .paging) }
+  written : write (c .memory) addr v ≡ record { rom = rom; ram = poked (ourMachine m) (w .core .paging) (w .core .ram) addr v; map = memoryMap (ourMachine m) (w .core .paging) }
   written = ap (λ (mem : ZXMemory). write mem addr v) (r .memory) ∙ write-is m rom (w .core) addr v
 
-  page-after : getPage (write (c .memory) addr v) addr ≡ pageAt m (w .core .paging) (addr / 16384)
+  page-after : getPage (write (c .memory) addr v) addr ≡ pageAt (ourMachine m) (w .core .paging) (addr / 16384)
   page-after = ap (λ (mem : ZXMemory). getPage mem addr) written
 
-  on-page : (p : Page) → pageAt m (w .core .paging) (addr / 16384) ≡ p
-      → Ends (updated p addr v c) (λ c′. Related m rom c′ (worldAfter m (poking (placeIn p rel) v) w))
+  on-page : (p : Page) → pageAt (ourMachine m) (w .core .paging) (addr / 16384) ≡ p
+      → Ends (updated p addr v c) (λ c′. Related m rom c′ (worldAfter (ourMachine m) (poking (placeIn p rel) v) w))
   unfolding inCore inScreen inEdge worldAfter placeOf
   on-page (page.Rom p) e =
       record {
@@ -223,7 +222,7 @@ module _ (m : ZXMachine) (rom : List ℕ) (c : ZXController) (w : World) (addr v
         };
       }
   on-page (page.Ram p) e =
-      let fits : 16384 * p + 16384 ≤ length (w .core .ram) = omega (arith, r .ramLong, rw e at (map-holds m (w .core .paging) (addr / 16384))) in
+      let fits : 16384 * p + 16384 ≤ length (w .core .ram) = omega (arith, r .ramLong, rw e at (map-holds (ourMachine m) (w .core .paging) (addr / 16384))) in
       record {
         value = withMemory (write (c .memory) addr v) (bankPut (localBank m p) rel v (c .screen)) c;
         ends = ap (λ (n : ZXMachine). andThen (update n rel p v (c .screen)) (λ s. done (withMemory (write (c .memory) addr v) s c))) (r .machine)
@@ -231,7 +230,7 @@ module _ (m : ZXMachine) (rom : List ℕ) (c : ZXController) (w : World) (addr v
         holds = record {
           machine = r .machine;
           memory = rw e at written;
-          screen = put-screen m (localBank m p) rel v (c .screen) (w .core) (inCore m (poke (16384 * p + rel) v) (w .core)) (w .screen) (r .screen) refl refl
+          screen = put-screen m (localBank m p) rel v (c .screen) (w .core) (inCore (ourMachine m) (poke (16384 * p + rel) v) (w .core)) (w .screen) (r .screen) refl refl
               (mirrored-put m p rel v (c .screen) (w .core .ram) (omega arith) fits (r .screen .mirrored));
           border = r .border;
           reported = r .reported;
@@ -247,9 +246,9 @@ module _ (m : ZXMachine) (rom : List ℕ) (c : ZXController) (w : World) (addr v
       }
 
   -- write_internal is the byte write, and its update keeps the mirrors.
-  pub poke-related : Ends (writeInternal addr v c) (λ c′. Related m rom c′ (worldAfter m (byteWrite m addr v (w .core)) w))
+  pub poke-related : Ends (writeInternal addr v c) (λ c′. Related m rom c′ (worldAfter (ourMachine m) (byteWrite (ourMachine m) addr v (w .core)) w))
   unfolding writeInternal placeOf
-  poke-related = rw page-after (on-page (pageAt m (w .core .paging) (addr / 16384)) refl)
+  poke-related = rw page-after (on-page (pageAt (ourMachine m) (w .core .paging) (addr / 16384)) refl)
 
 -- ---- a page loaded, and the refresh that follows it
 twice : (t : Bool) (f g : ScreenBank → ScreenBank) (x y : ScreenBank) → (cond t (f (cond t (g x) x)) (cond t (g x) x) ≡ cond t (f (g x)) x)
@@ -291,7 +290,7 @@ module _ (m : ZXMachine) (bank b : ℕ) (bytes : List ℕ) (s : ZXScreen) (local
       ∙ bank-same b (λ x. put n (getD bytes n 0) (putAll bytes n x)) (putAll bytes (suc n)) s (put-last bytes n (s .bank0)) (put-last bytes n (s .bank1))))
 
 -- a refresh of one page, from the memory as it stands
-refresh-page : (m : ZXMachine) (bank b : ℕ) (mem : ZXMemory) (s : ZXScreen) → length (mem .ram) ≡ specsOf m .ram → pageExists m bank ≡ true
+refresh-page : (m : ZXMachine) (bank b : ℕ) (mem : ZXMemory) (s : ZXScreen) → length (mem .ram) ≡ specsOf (ourMachine m) .ram → pageExists (ourMachine m) bank ≡ true
     → localBank m bank ≡ some b → refreshPage m bank mem (done s) ≡ done (withBank b (putAll (ramPage bank (mem .ram)) 16384) s)
 refresh-page m bank b mem s long there local =
     ap (λ (r : Run (List ℕ)). andThen r (λ bytes. each 0 16384 (refreshByte m bank bytes) (done s))) (rw there at (page-data-is m mem long bank))
@@ -299,7 +298,7 @@ refresh-page m bank b mem s long there local =
 
 -- REFRESH: refresh_memory_dependent_devices leaves every bank mirroring its page, whatever the banks held, and touches nothing else.
 pub refresh-is : (m : ZXMachine) (mem : ZXMemory) (s : ZXScreen) (c c′ : Core) (w : Screen) → SameScreen m s c w
-    → c′ .phase ≡ c .phase → c′ .paging ≡ c .paging → c′ .ram ≡ mem .ram → length (mem .ram) ≡ specsOf m .ram
+    → c′ .phase ≡ c .phase → c′ .paging ≡ c .paging → c′ .ram ≡ mem .ram → length (mem .ram) ≡ specsOf (ourMachine m) .ram
     → Ends (refreshed m mem s) (λ s′. SameScreen m s′ c′ w)
 refresh-is Sinclair48K mem s c c′ w r p q u long =
     record {
@@ -322,14 +321,14 @@ refresh-is Sinclair128K mem s c c′ w r p q u long =
 
 -- PAGE LOAD: the copy and its refresh do not panic where the page is there, and keep the two machines related.
 pub load-related : (m : ZXMachine) (rom : List ℕ) (c : ZXController) (w : World) (p : ℕ) (bytes : List ℕ) → Related m rom c w
-    → pageExists m p ≡ true → length bytes ≡ 16384
-    → Ends (loadAndRefresh p bytes c) (λ c′. Related m rom c′ (does m (load p bytes) w))
+    → pageExists (ourMachine m) p ≡ true → length bytes ≡ 16384
+    → Ends (loadAndRefresh p bytes c) (λ c′. Related m rom c′ (does (ourMachine m) (load p bytes) w))
 unfolding loadAndRefresh inCore inScreen inEdge
 load-related m rom c w p bytes r there whole =
-    let fits : 16384 * p + 16384 ≤ length (w .core .ram) = omega (arith, r .ramLong, exists-fits m p there) in
-    let mem : ZXMemory = record { rom = rom; ram = loaded p bytes (w .core .ram); map = memoryMap m (w .core .paging) } in
-    let long : length (loaded p bytes (w .core .ram)) ≡ specsOf m .ram = length-loaded p bytes (w .core .ram) whole fits ∙ r .ramLong in
-    let f = refresh-is m mem (c .screen) (w .core) (inCore m (load p bytes) (w .core)) (w .screen) (r .screen) refl refl refl long in
+    let fits : 16384 * p + 16384 ≤ length (w .core .ram) = omega (arith, r .ramLong, exists-fits (ourMachine m) p there) in
+    let mem : ZXMemory = record { rom = rom; ram = loaded p bytes (w .core .ram); map = memoryMap (ourMachine m) (w .core .paging) } in
+    let long : length (loaded p bytes (w .core .ram)) ≡ specsOf (ourMachine m) .ram = length-loaded p bytes (w .core .ram) whole fits ∙ r .ramLong in
+    let f = refresh-is m mem (c .screen) (w .core) (inCore (ourMachine m) (load p bytes) (w .core)) (w .screen) (r .screen) refl refl refl long in
     record {
       value = withMemory mem (f .value) c;
       ends =

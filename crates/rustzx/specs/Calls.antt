@@ -6,7 +6,7 @@ use mathlib.Core.Bool.{Bool, true, false, cond}
 use mathlib.Core.List.{List, [], _∷_}
 use lib.Dec.{leb}
 use lib.ListN.{length}
-use Rattle.machine.specs.declared.ZXMachine.{ZXMachine}
+use Rattle.machine.specs.declared.ZXMachine as ours
 use Rattle.machine.specs.Timing.{interrupt}
 use Rattle.record.specs.Record.{flagByte}
 use Rattle.memory.specs.Paging as paging
@@ -18,7 +18,7 @@ use Rattle.bus.specs.Time.{shownPicture}
 use Rattle.bus.specs.Turns.{Part, fresh, ranBy}
 use Rattle.bus.specs.Calls.{plainWait, addressWait, portRead, readValue, pagingWrite, portWrite, writeCode}
 use Rattle.rustzx.specs.Panics.{Run, done, andThen}
-use Rattle.rustzx.specs.Machine.{specs}
+use Rattle.rustzx.specs.Machine.{ZXMachine, specs}
 use Rattle.rustzx.specs.Memory.{ramPageData, blockData}
 use Rattle.rustzx.specs.Screen.{blockIndex}
 use Rattle.rustzx.specs.Controller as rust
@@ -100,7 +100,7 @@ performed borderBuffer c = done (gives c (c .border .buffer))
 abbrev pub nothing : Part
 nothing c = []
 
-unfoldable pub partOf : ZXMachine → Call → Part
+unfoldable pub partOf : ours.ZXMachine → Call → Part
 partOf m (waitInternal n) = plainWait n
 partOf m (waitMreq addr n) = addressWait m addr n
 partOf m (waitNoMreq addr n) = addressWait m addr n
@@ -119,7 +119,7 @@ partOf m (blockOf block) = nothing
 partOf m screenBuffer = nothing
 partOf m borderBuffer = nothing
 
-unfoldable pub answerOf : ZXMachine → List ℕ → Call → World → List ℕ
+unfoldable pub answerOf : ours.ZXMachine → List ℕ → Call → World → List ℕ
 answerOf m rom (waitInternal n) w = []
 answerOf m rom (waitMreq addr n) w = []
 answerOf m rom (waitNoMreq addr n) w = []
@@ -139,12 +139,12 @@ answerOf m rom screenBuffer w = shownPicture (w .core) (w .screen)
 answerOf m rom borderBuffer w = w .edge .pixels
 
 -- the world that a call leaves
-abbrev pub after : ZXMachine → Call → World → World
+abbrev pub after : ours.ZXMachine → Call → World → World
 after m k w = ranBy (partOf m k) (fresh m w) .world
 
 -- what the eight refusals leave of such a call: no wait above 65,535 clocks (5), passed frames below 4,294,967,295 for a timed call (6), a tape
 -- bit of 0 or 1 (4), a page that is there and 16,384 bytes for it (7, 2), a block of at most 3 (8); a byte is a byte
-abbrev pub Accepted : ZXMachine → Call → World → Type 0
+abbrev pub Accepted : ours.ZXMachine → Call → World → Type 0
 Accepted m (waitInternal n) w = (n ≤ 65535) × (w .core .passed < 4294967295)
 Accepted m (waitMreq addr n) w = (n ≤ 65535) × (w .core .passed < 4294967295)
 Accepted m (waitNoMreq addr n) w = (n ≤ 65535) × (w .core .passed < 4294967295)
@@ -174,15 +174,15 @@ allPerformed (k ∷ ks) c =
     andThen (performed k c) (λ g.
     andThen (allPerformed ks (g .controller)) (λ s. done (record { controller = s .controller; answers = g .answer ∷ s .answers })))
 
-unfoldable pub allAnswers : ZXMachine → List ℕ → List Call → World → List (List ℕ)
+unfoldable pub allAnswers : ours.ZXMachine → List ℕ → List Call → World → List (List ℕ)
 allAnswers m rom [] w = []
 allAnswers m rom (k ∷ ks) w = answerOf m rom k w ∷ allAnswers m rom ks (after m k w)
 
-unfoldable pub afterAll : ZXMachine → List Call → World → World
+unfoldable pub afterAll : ours.ZXMachine → List Call → World → World
 afterAll m [] w = w
 afterAll m (k ∷ ks) w = afterAll m ks (after m k w)
 
-abbrev pub AllAccepted : ZXMachine → List Call → World → Type 0
+abbrev pub AllAccepted : ours.ZXMachine → List Call → World → Type 0
 AllAccepted m [] w = Unit {0}
 AllAccepted m (k ∷ ks) w = Accepted m k w × AllAccepted m ks (after m k w)
 

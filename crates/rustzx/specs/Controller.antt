@@ -7,8 +7,6 @@ use mathlib.Core.List.{List}
 use lib.Dec.{ltb, leb, eqb}
 use lib.ListN.{getD}
 use lib.Bits.{bitAnd, bitXor}
-use Rattle.machine.specs.declared.ZXMachine.{ZXMachine}
-use Rattle.machine.specs.declared.ZXMachine.the-variants.{Sinclair48K, Sinclair128K}
 use Rattle.screen.specs.declared.ZXColor.{ZXColor}
 use Rattle.screen.specs.declared.ZXColor.the-variants.{Black}
 use Rattle.memory.specs.declared.Page.{Page}
@@ -23,7 +21,7 @@ use Rattle.ports.specs.declared.Joystick.the-variants as joystick
 use Rattle.ports.specs.declared.Mouse.{Mouse}
 use Rattle.ports.specs.declared.Mouse.the-variants as mouse
 use Rattle.rustzx.specs.Panics.{Run, done, andThen, each}
-use Rattle.rustzx.specs.Machine.{specs, contentionClocks, portIsContended, bankIsContended}
+use Rattle.rustzx.specs.Machine.{ZXMachine, Sinclair48K, Sinclair128K, specs, contentionClocks, portIsContended, bankIsContended}
 use Rattle.rustzx.specs.Addresses.{canvasHeight, bitmapLineAddr}
 use Rattle.rustzx.specs.Colors.{fromBits}
 use Rattle.rustzx.specs.Memory.{ZXMemory, pageSize, newMemory, getPage, read, write, remap, ramPageData, loadPage}

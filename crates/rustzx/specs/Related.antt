@@ -5,8 +5,8 @@ use mathlib.Core.Path.{_≡_}
 use mathlib.Core.Bool.{Bool, true, false, cond, not}
 use mathlib.Core.List.{List}
 use lib.ListN.{length, getD}
-use Rattle.machine.specs.declared.ZXMachine.{ZXMachine}
-use Rattle.machine.specs.declared.ZXMachine.the-variants.{Sinclair48K, Sinclair128K}
+use Rattle.machine.specs.declared.ZXMachine as ours
+use Rattle.machine.specs.declared.ZXMachine.the-variants as our
 use Rattle.machine.specs.Numbers.{specsOf}
 use Rattle.machine.specs.Timing.{blockPosition, frameEnd}
 use Rattle.offsets.specs.Offset.{offsetOf}
@@ -16,11 +16,17 @@ use Rattle.memory.specs.Paging.{bitSet, memoryMap, shownPage}
 use Rattle.memory.specs.Memory.{ramPage}
 use Rattle.bus.specs.World.{Core, Screen, World}
 use Rattle.bus.specs.Time.{flashOn, shownPicture, hiddenPicture}
+use Rattle.rustzx.specs.Machine.{ZXMachine, Sinclair48K, Sinclair128K}
 use Rattle.rustzx.specs.Colors.{colorByte}
 use Rattle.rustzx.specs.Memory.{ZXMemory}
 use Rattle.rustzx.specs.Screen.{ScreenBank, ZXScreen, blackAttribute, blockIndex}
 use Rattle.rustzx.specs.Border.{ZXBorder, screenWidth}
 use Rattle.rustzx.specs.Controller.{ZXController}
+
+-- the Rust's two machines among ours
+abbrev pub ourMachine : ZXMachine → ours.ZXMachine
+ourMachine Sinclair48K = our.Sinclair48K
+ourMachine Sinclair128K = our.Sinclair128K
 
 -- "RAM is the sole store of video bytes; the Rust's mirrored banks equal it": the bitmap in raster order, the attributes taken apart
 pub record Mirrors (b : ScreenBank) (page : List ℕ) : Type 0 where
@@ -60,7 +66,7 @@ pub record SameBorder (b : ZXBorder) (e : Edge) : Type 0 where
 
 -- the memory: the lent ROM, the RAM, and the map that the 7FFD byte decides
 abbrev pub memoryOf : ZXMachine → List ℕ → Core → ZXMemory
-memoryOf m rom c = record { rom = rom; ram = c .ram; map = memoryMap m (c .paging) }
+memoryOf m rom c = record { rom = rom; ram = c .ram; map = memoryMap (ourMachine m) (c .paging) }
 
 -- paging is open on 128K until bit 5 of a 7FFD byte locks it
 abbrev pub pagingOpen : ZXMachine → ℕ → Bool
@@ -68,7 +74,7 @@ pagingOpen Sinclair48K paging = false
 pagingOpen Sinclair128K paging = not (bitSet 5 paging)
 
 -- Of soundness (crate `record`, specs/Sound) these clauses are used, and no other: what is proved of related states holds wherever a world is sound.
-pub record InStep (m : ZXMachine) (w : World) : Type 0 where
+pub record InStep (m : ours.ZXMachine) (w : World) : Type 0 where
   pub phase : w .core .phase < 32
   pub painted : w .screen .painted ≤ blockPosition (specsOf m) (w .core .clock)
   pub atEnd : w .edge .blocked ≡ true → frameEnd (specsOf m) (w .core .clock) ≡ true
@@ -83,8 +89,8 @@ pub record Related (m : ZXMachine) (rom : List ℕ) (c : ZXController) (w : Worl
   pub clock : c .frameClocks ≡ w .core .clock
   pub passed : c .passedFrames ≡ w .core .passed
   pub enabled : c .pagingEnabled ≡ pagingOpen m (w .core .paging)
-  pub bank : c .screenBank ≡ shownPage m (w .core .paging)
+  pub bank : c .screenBank ≡ shownPage (ourMachine m) (w .core .paging)
   pub port : c .currentPort7ffd ≡ w .core .paging
-  pub ramLong : length (w .core .ram) ≡ specsOf m .ram
-  pub romLong : length rom ≡ specsOf m .rom
-  pub inStep : InStep m w
+  pub ramLong : length (w .core .ram) ≡ specsOf (ourMachine m) .ram
+  pub romLong : length rom ≡ specsOf (ourMachine m) .rom
+  pub inStep : InStep (ourMachine m) w

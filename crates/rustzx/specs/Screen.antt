@@ -7,15 +7,13 @@ use mathlib.Core.List.{List}
 use lib.Dec.{ltb, leb, eqb}
 use lib.ListN.{getD, set, replicate}
 use lib.Bits.{bitAnd}
-use Rattle.machine.specs.declared.ZXMachine.{ZXMachine}
-use Rattle.machine.specs.declared.ZXMachine.the-variants.{Sinclair48K, Sinclair128K}
 use Rattle.screen.specs.declared.ZXColor.{ZXColor}
 use Rattle.screen.specs.declared.ZXColor.the-variants.{Black}
 use Rattle.screen.specs.declared.ZXBrightness.{ZXBrightness}
 use Rattle.screen.specs.declared.ZXBrightness.the-variants.{Normal}
 use Rattle.screen.specs.declared.ZXAttribute.{ZXAttribute}
 use Rattle.rustzx.specs.Panics.{Run, done, andThen, each}
-use Rattle.rustzx.specs.Machine.{specs}
+use Rattle.rustzx.specs.Machine.{ZXMachine, Sinclair48K, Sinclair128K, specs}
 use Rattle.rustzx.specs.Addresses.{canvasHeight, attrCols, bitmapLineRel, bitmapColRel, attrRowRel, attrColRel}
 use Rattle.rustzx.specs.Colors.{colorByte, brightnessByte, fromByte, activeColor}
 

@@ -4,7 +4,6 @@
 use Prim.Native.Nat.{ℕ, _<_}
 use mathlib.Core.Path.{_≡_}
 use mathlib.Core.List.{List, [], _∷_, _++_}
-use Rattle.record.specs.Record.{recordOf}
 use Rattle.ports.specs.Devices.{devicesOf}
 use Rattle.contracts.specs.Timed as timed
 use Rattle.contracts.specs.Timed.{Lent}
@@ -118,13 +117,13 @@ left (shown answer) l = l
 
 -- what the Rust says of an accepted call's answer; a call that only changes the machine says it by what it leaves
 abbrev pub SameAnswer : List ℕ → Asked → ZXController → Lent → Type 0
-SameAnswer rom (waitInternal n answer) c l = SameTimed (recordOf (l .state) .machine) rom (rust.waitInternal n) NoValue c (timed.waitInternal l n answer)
-SameAnswer rom (waitMreq addr n answer) c l = SameTimed (recordOf (l .state) .machine) rom (rust.waitMreq addr n) NoValue c (timed.waitAt l addr n answer)
-SameAnswer rom (waitNoMreq addr n answer) c l = SameTimed (recordOf (l .state) .machine) rom (rust.waitNoMreq addr n) NoValue c (timed.waitAt l addr n answer)
+SameAnswer rom (waitInternal n answer) c l = SameTimed rom (rust.waitInternal n) NoValue c (timed.waitInternal l n answer)
+SameAnswer rom (waitMreq addr n answer) c l = SameTimed rom (rust.waitMreq addr n) NoValue c (timed.waitAt l addr n answer)
+SameAnswer rom (waitNoMreq addr n answer) c l = SameTimed rom (rust.waitNoMreq addr n) NoValue c (timed.waitAt l addr n answer)
 SameAnswer rom (readIo devices port answer) c l =
-    SameTimed (recordOf (l .state) .machine) rom (rust.readIo (devicesOf devices) port) ItsValue c (timed.readIo l devices port answer)
+    SameTimed rom (rust.readIo (devicesOf devices) port) ItsValue c (timed.readIo l devices port answer)
 SameAnswer rom (writeIo devices port value answer) c l =
-    SameTimed (recordOf (l .state) .machine) rom (rust.writeIo (devicesOf devices) port value) ItsValue c (timed.writeIo l devices port value answer)
+    SameTimed rom (rust.writeIo (devicesOf devices) port value) ItsValue c (timed.writeIo l devices port value answer)
 SameAnswer rom (readInternal addr answer) c l = SameTold (rust.readInternal addr) c (plain.readInternal (l .state) rom (l .ram) addr answer)
 SameAnswer rom (read7ffd answer) c l = SameTold rust.read7ffd c (plain.read7ffd (l .state) answer)
 SameAnswer rom (intActive answer) c l = SameTold rust.intActive c (plain.intActive (l .state) answer)
