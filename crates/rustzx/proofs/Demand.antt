@@ -6,17 +6,15 @@ use mathlib.Core.List.{List, [], _∷_}
 use Prim.Native.Nat.{ℕ, _+_, _*_, _%_, _<_}
 use native.Mathlib.Omega.{arith}
 use lib.Dec.{ltb, leb}
-use lib.ListN.{length}
+use lib.ListN.{length, getD}
 use borrow.Author.Tests.{le-ltb}
 use Rattle.laws.proofs.Cases.{by-bool}
 use Rattle.machine.specs.Numbers.{specsOf}
 use Rattle.machine.specs.Timing.{interrupt}
 use Rattle.record.specs.Record.{flagByte}
-use Rattle.memory.specs.declared.Page.{Page}
-use Rattle.memory.specs.declared.Page.the-variants as page
 use Rattle.memory.specs.declared.Paged.{Paged}
 use Rattle.memory.specs.declared.Place.{Place}
-use Rattle.memory.specs.declared.Place.the-variants.{Rom, Ram}
+use Rattle.memory.specs.declared.Place.the-variants as place
 use Rattle.memory.specs.Paging as paging
 use Rattle.memory.specs.Paging.{bitSet, pageAt, pageExists, pagedCode}
 use Rattle.memory.specs.Memory.{placeOf, Holds, ramPage, pagePart}
@@ -34,14 +32,14 @@ use Rattle.machine.specs.declared.ZXMachine as ours
 use Rattle.machine.specs.declared.ZXMachine.the-variants as our
 use Rattle.rustzx.specs.Panics.{Run, done, andThen, Ends}
 use Rattle.rustzx.specs.Machine.{ZXMachine, Sinclair48K, Sinclair128K, specs}
-use Rattle.rustzx.specs.Memory.{ZXMemory, read, ramPageData, pageData, blockData}
+use Rattle.rustzx.specs.Memory.{Page, Rom, Ram, ZXMemory, ramPageData, pageData, blockData}
 use Rattle.rustzx.specs.Controller as rust
 use Rattle.rustzx.specs.Controller.{ZXController, Reached, Wrote, new, withRom}
-use Rattle.rustzx.specs.Related.{ourMachine, memoryOf, Related}
+use Rattle.rustzx.specs.Related.{ourMachine, ourPage, Related}
 use Rattle.bus.specs.Pokes.{poking, byteWrite, pageLoad, passedReset}
 use Rattle.rustzx.specs.Calls.{Call, waitInternal, waitMreq, waitNoMreq, readIo, writeIo, readInternal, writeInternal, write7ffd, read7ffd, intActive, framesCount, resetFrameCounter, loadPage, ramPageOf, blockOf, screenBuffer, borderBuffer, Given, reachedCode, pagingCode, gives, acted, wrote, told, performed, partOf, answerOf, after, Accepted, Seen, allPerformed, allAnswers, afterAll, AllAccepted, TimedByRust}
 use Rattle.rustzx.proofs.Timing.{frame-is, interrupt-is}
-use Rattle.rustzx.proofs.Pages.{read-is, bank-type-is, page-data-is}
+use Rattle.rustzx.proofs.Pages.{block-page, read-is, bank-type-is, page-data-is}
 use Rattle.rustzx.proofs.Steps.{unpass-related}
 use Rattle.rustzx.proofs.Stores.{paging-related, poke-related, load-related}
 use Rattle.rustzx.proofs.PortCalls.{behind, plain-follows, wait-follows, read-follows, write-follows}
@@ -87,26 +85,37 @@ module _ (m : ZXMachine) (rom : List ℕ) where
   told-ends c w x bytes r e = record { value = gives c bytes; ends = ap (told c) e; holds = (refl, stays c w r) }
 
 -- a page of the map is there, in ROM or RAM
-data-is : (m : ZXMachine) (mem : ZXMemory) (p : Page) → Holds p (length (mem .rom)) (length (mem .ram)) → pageData mem p ≡ done (pagePart p (mem .rom) (mem .ram))
-data-is m mem (page.Rom p) h =
+data-is : (mem : ZXMemory) (p : Page) → Holds (ourPage p) (length (mem .rom)) (length (mem .ram)) → pageData mem p ≡ done (pagePart (ourPage p) (mem .rom) (mem .ram))
+data-is mem (Rom p) h =
     let e : p * 16384 ≡ 16384 * p = omega arith in
     let l = le-ltb (length (mem .rom)) ((p + 1) * 16384) (omega arith) in
     rw (l, e)
-data-is m mem (page.Ram p) h =
+data-is mem (Ram p) h =
     let e : p * 16384 ≡ 16384 * p = omega arith in
     let l = le-ltb (length (mem .ram)) ((p + 1) * 16384) (omega arith) in
     rw (l, e)
 
 module _ (m : ZXMachine) (rom : List ℕ) (c : ZXController) (w : World) (r : Related m rom c w) where
-  block-is : (block : ℕ) → leb block 3 ≡ true → blockData (c .memory) block ≡ done (pagePart (pageAt (ourMachine m) (w .core .paging) block) rom (w .core .ram))
-  block-is block h =
-      ap (λ (mem : ZXMemory). blockData mem block) (r .memory)
-      ∙ ap (λ (x : Run Page). andThen x (λ p. pageData (memoryOf m rom (w .core)) p)) (rw h at (bank-type-is m rom (w .core) block))
-      ∙ data-is m (memoryOf m rom (w .core)) (pageAt (ourMachine m) (w .core .paging) block)
-      (rw (r .romLong, r .ramLong) (map-holds (ourMachine m) (w .core .paging) block))
+  -- the memory of related states, by page
+  abbrev ram : List ℕ
+  ram = w .core .ram
 
-  page-is : (p : ℕ) → pageExists (ourMachine m) p ≡ true → ramPageData (c .memory) p ≡ done (ramPage p (w .core .ram))
-  page-is p h = ap (λ (mem : ZXMemory). ramPageData mem p) (r .memory) ∙ (rw h at (page-data-is m (memoryOf m rom (w .core)) (r .ramLong) p))
+  abbrev last : ℕ
+  last = w .core .paging
+
+  block-is : (block : ℕ) → leb block 3 ≡ true → blockData (c .memory) block ≡ done (pagePart (pageAt (ourMachine m) last block) rom ram)
+  block-is block h =
+      let p : Page = getD (c .memory .map) block (Rom 0) in
+      let at = block-page (ourMachine m) rom ram last (c .memory) (r .memory) block in
+      ap (λ (x : Run Page). andThen x (λ q. pageData (c .memory) q)) (rw h at (bank-type-is (c .memory) block))
+      ∙ data-is (c .memory) p (rw (at, r .memory .rom, r .memory .ram, r .romLong, r .ramLong) (map-holds (ourMachine m) last block))
+      ∙ ap done (rw (r .memory .rom, r .memory .ram, at))
+
+  ram-long : length (c .memory .ram) ≡ specsOf (ourMachine m) .ram
+  ram-long = ap length (r .memory .ram) ∙ r .ramLong
+
+  page-is : (p : ℕ) → pageExists (ourMachine m) p ≡ true → ramPageData (c .memory) p ≡ done (ramPage p ram)
+  page-is p h = (rw h at (page-data-is m (c .memory) ram-long p)) ∙ ap (λ (l : List ℕ). done (ramPage p l)) (r .memory .ram)
 
   int-at : w .core .clock < specsOf (ourMachine m) .frame → rust.intActive c ≡ interrupt (w .core .clock)
   int-at inside =
@@ -144,7 +153,7 @@ module _ (m : ZXMachine) (rom : List ℕ) (c : ZXController) (w : World) (r : Re
       record {
         value = gives c (rust.readInternal addr c ∷ []);
         ends = refl;
-        holds = (ap (λ (v : ℕ). v ∷ []) (ap (λ (mem : ZXMemory). read mem addr) (r .memory) ∙ read-is m rom (w .core) addr), stays m rom c w r);
+        holds = (ap (λ (v : ℕ). v ∷ []) (read-is (ourMachine m) rom (w .core .ram) (w .core .paging) (c .memory) (r .memory) addr), stays m rom c w r);
       }
   call-agrees (writeInternal addr value) s a = acted-ends m rom (byteWrite (ourMachine m) addr value) w _ (poke-related m rom c w addr value r)
   call-agrees (write7ffd value) s a =
@@ -188,8 +197,8 @@ module _ (m : ours.ZXMachine) (w : World) (s : SoundWorld m w) where
 
   poke-kept : (p : Place) (v : ℕ) → SoundWorld m (worldAfter m (poking p v) w)
   unfolding worldAfter clocksOf
-  poke-kept (Rom at) v = s
-  poke-kept (Ram at) v = at-once (poke at v) tt refl
+  poke-kept (place.Rom at) v = s
+  poke-kept (place.Ram at) v = at-once (poke at v) tt refl
 
   load-kept : (p : ℕ) (bytes : List ℕ) → SoundWorld m (behind m (pageLoad p bytes) w)
   unfolding worldAfter clocksOf

@@ -3,7 +3,7 @@
 -- Assumes nothing.
 use mathlib.Core.Path.{_≡_, refl, sym, _∙_}
 use mathlib.Core.Bool.{true, false≢true}
-use mathlib.Core.List.{List}
+use mathlib.Core.List.{List, [], _∷_, map}
 use Prim.Native.Nat.{ℕ, _*_, _/_, _%_, _<_}
 use native.Mathlib.Nat.{mod-eq-of-lt}
 use native.Mathlib.Omega.{arith}
@@ -13,17 +13,18 @@ use Rattle.machine.specs.declared.ZXMachine.the-variants as our
 use Rattle.machine.specs.Numbers.{specsOf}
 use Rattle.screen.specs.Color.{colorOf}
 use Rattle.screen.proofs.RoundTrips.{number-then-color}
-use Rattle.memory.specs.Paging.{shownPage}
+use Rattle.memory.specs.Paging.{bit, memoryMap, shownPage}
 use Rattle.memory.specs.Memory.{ramPage}
 use Rattle.bus.specs.World.{World}
 use Rattle.bus.specs.Time.{flashOn, shownPicture, hiddenPicture}
 use Rattle.bus.proofs.Kept.{SoundWorld}
 use Rattle.rustzx.specs.Machine.{ZXMachine, Sinclair48K, Sinclair128K}
 use Rattle.rustzx.specs.Colors.{colorByte}
+use Rattle.rustzx.specs.Memory.{Page, Rom, Ram}
 use Rattle.rustzx.specs.Screen.{ZXScreen, blackAttribute, newBank}
 use Rattle.rustzx.specs.Border.{ZXBorder}
 use Rattle.rustzx.specs.Controller.{ZXController}
-use Rattle.rustzx.specs.Related.{ourMachine, Mirrors, Mirrored, activeOf, memoryOf, pagingOpen, Related}
+use Rattle.rustzx.specs.Related.{ourMachine, ourPage, Mirrors, Mirrored, activeOf, pagingOpen, Related}
 use Rattle.rustzx.proofs.Helpers.{color-byte-is}
 use Rattle.rustzx.proofs.Banks.{putAll, all-mirrors}
 use Rattle.rustzx.proofs.Steps.{sound-in-step}
@@ -55,12 +56,21 @@ borderOf w =
       beamBlock = w .edge .blocked;
     }
 
+-- the map of a machine with a 7FFD byte
+abbrev mapOf : ZXMachine → ℕ → List Page
+mapOf Sinclair48K paging = Rom 0 ∷ Ram 0 ∷ Ram 1 ∷ Ram 2 ∷ []
+mapOf Sinclair128K paging = Rom (bit 4 paging) ∷ Ram 5 ∷ Ram 2 ∷ Ram (paging % 8) ∷ []
+
+map-is : (m : ZXMachine) (paging : ℕ) → map ourPage (mapOf m paging) ≡ memoryMap (ourMachine m) paging
+map-is Sinclair48K paging = refl
+map-is Sinclair128K paging = refl
+
 -- a state of the Rust for a machine, a ROM and a world
 abbrev pub rustOf : ZXMachine → List ℕ → World → ZXController
 rustOf m rom w =
     record {
       machine = m;
-      memory = memoryOf m rom (w .core);
+      memory = record { rom = rom; ram = w .core .ram; map = mapOf m (w .core .paging) };
       screen = screenOf m w;
       border = borderOf w;
       borderColor = colorOf (w .core .reported);
@@ -99,7 +109,7 @@ pub every-state : (m : ZXMachine) (rom : List ℕ) (w : World) → SoundWorld (o
 every-state m rom w s ram-long rom-long =
     record {
       machine = refl;
-      memory = refl;
+      memory = record { rom = refl; ram = refl; pages = map-is m (w .core .paging) };
       screen = record {
         position = omega arith;
         columns = omega arith;

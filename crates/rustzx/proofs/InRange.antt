@@ -1,12 +1,12 @@
 -- In Rust a subtraction below 0 and an index past the end panic too. The definitions write them plainly, as `-`, `getD` and `set`; here each that
 -- no test right before it guards is shown to stay in range on related states, so that what is plain in the definitions never panics either.
 -- Assumes nothing.
-use mathlib.Core.Path.{_≡_, refl, ap, _∙_}
+use mathlib.Core.Path.{_≡_, refl, sym, ap, _∙_}
 use mathlib.Core.List.{List}
 use Prim.Native.Nat.{ℕ, _+_, _-_, _*_, _/_, _%_, _<_, _≤_}
 use native.Mathlib.Omega.{arith}
 use lib.Dec.{lit<}
-use lib.ListN.{length}
+use lib.ListN.{length, length-map}
 use Rattle.laws.proofs.Cases.{by-bool}
 use Rattle.machine.specs.declared.BorderPlace.{BorderPlace}
 use Rattle.machine.specs.declared.BorderPlace.the-variants.{At, FrameEnd}
@@ -16,48 +16,47 @@ use Rattle.machine.proofs.Bounds.{Within, border-within, position-small}
 use Rattle.machine.proofs.Numbered.{regular}
 use Rattle.machine.proofs.Rising.{blocks-mono}
 use Rattle.screen.specs.Address.{lineOf}
-use Rattle.memory.specs.declared.Page.{Page}
-use Rattle.memory.specs.declared.Page.the-variants as page
-use Rattle.memory.specs.Paging.{bitSet, memoryMap, pageAt}
+use Rattle.memory.specs.Paging.{bitSet, memoryMap}
 use Rattle.memory.specs.Memory.{Holds}
 use Rattle.memory.proofs.Places.{map-holds}
 use Rattle.offsets.specs.Offset.{lineStart}
 use Rattle.bus.specs.World.{World}
 use Rattle.rustzx.specs.Machine.{ZXMachine, Sinclair48K, Sinclair128K}
-use Rattle.rustzx.specs.Memory.{ZXMemory, pageSize, getPage}
+use Rattle.rustzx.specs.Memory.{Page, Rom, Ram, ZXMemory, pageSize, getPage}
 use Rattle.rustzx.specs.Screen.{fromClocks, blockIndex, activeBankOf}
 use Rattle.rustzx.specs.Border.{nextBorderPixel, screenWidth}
 use Rattle.rustzx.specs.Controller.{ZXController, floatingColumn}
-use Rattle.rustzx.specs.Related.{ourMachine, memoryOf, activeOf, Related}
+use Rattle.rustzx.specs.Related.{ourMachine, ourPage, activeOf, Related}
 use Rattle.rustzx.proofs.Timing.{blocks-are, nextOf, border-is}
 use Rattle.rustzx.proofs.Screens.{active-mirrors}
+use Rattle.rustzx.proofs.Pages.{page-is}
 
 -- memory: the page's entry of the map, and the byte behind it
 abbrev pub Inside : ZXMemory → Page → ℕ → Type 0
-Inside mem (page.Rom p) offset = p * pageSize + offset < length (mem .rom)
-Inside mem (page.Ram p) offset = p * pageSize + offset < length (mem .ram)
+Inside mem (Rom p) offset = p * pageSize + offset < length (mem .rom)
+Inside mem (Ram p) offset = p * pageSize + offset < length (mem .ram)
 
 four : (m : ZXMachine) (paging : ℕ) → length (memoryMap (ourMachine m) paging) ≡ 4
 four Sinclair48K paging = refl
 four Sinclair128K paging = refl
 
-held-inside : (mem : ZXMemory) (p : Page) (offset : ℕ) → offset < 16384 → Holds p (length (mem .rom)) (length (mem .ram)) → Inside mem p offset
-held-inside mem (page.Rom p) offset h k = omega arith
-held-inside mem (page.Ram p) offset h k = omega arith
+held-inside : (mem : ZXMemory) (p : Page) (offset : ℕ) → offset < 16384 → Holds (ourPage p) (length (mem .rom)) (length (mem .ram)) → Inside mem p offset
+held-inside mem (Rom p) offset h k = omega arith
+held-inside mem (Ram p) offset h k = omega arith
 
 module _ (m : ZXMachine) (rom : List ℕ) (c : ZXController) (w : World) (r : Related m rom c w) where
   -- `self.map[addr / PAGE_SIZE]`, of an address of 16 bits
   pub map-in-range : (addr : ℕ) → addr < 65536 → addr / pageSize < length (c .memory .map)
   map-in-range addr h =
-      let e : length (c .memory .map) ≡ 4 = ap (λ (mem : ZXMemory). length (mem .map)) (r .memory) ∙ four m (w .core .paging) in
+      let e : length (c .memory .map) ≡ 4 = sym (length-map (c .memory .map) ourPage) ∙ ap length (r .memory .pages) ∙ four m (w .core .paging) in
       omega arith
 
   -- `self.rom[..]` and `self.ram[..]` of read and write
   pub byte-in-range : (addr : ℕ) → Inside (c .memory) (getPage (c .memory) addr) (addr % pageSize)
   byte-in-range addr =
-      rw (r .memory)
-      (held-inside (memoryOf m rom (w .core)) (pageAt (ourMachine m) (w .core .paging) (addr / 16384)) (addr % 16384) (omega arith)
-      (rw (r .romLong, r .ramLong) (map-holds (ourMachine m) (w .core .paging) (addr / 16384))))
+      held-inside (c .memory) (getPage (c .memory) addr) (addr % 16384) (omega arith)
+      (rw (page-is (ourMachine m) rom (w .core .ram) (w .core .paging) (c .memory) (r .memory) addr, r .memory .rom, r .memory .ram, r .romLong, r .ramLong)
+      (map-holds (ourMachine m) (w .core .paging) (addr / 16384)))
 
   -- passed_from: no difference goes below 0, whichever arm is taken, at any clock that wait_internal comes to
   pub passed-in-range : (n : ℕ)

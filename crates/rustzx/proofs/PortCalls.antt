@@ -14,7 +14,7 @@ use Rattle.machine.specs.Contended.{portContended}
 use Rattle.screen.specs.declared.ZXColor.{ZXColor}
 use Rattle.screen.specs.Color.{colorOf}
 use Rattle.screen.proofs.RoundTrips.{number-then-color}
-use Rattle.memory.specs.Paging.{write7ffd, pagedCode}
+use Rattle.memory.specs.Paging.{pageContended, write7ffd, pagedCode}
 use Rattle.ports.specs.declared.Devices.{Devices}
 use Rattle.ports.specs.declared.Extender.{Extender}
 use Rattle.ports.specs.declared.Extender.the-variants as extender
@@ -30,7 +30,7 @@ use Rattle.machine.specs.declared.ZXMachine as ours
 use Rattle.rustzx.specs.Panics as run
 use Rattle.rustzx.specs.Panics.{Run, done, Ends}
 use Rattle.rustzx.specs.Machine.{ZXMachine, Sinclair48K, Sinclair128K, contentionClocks, portIsContended}
-use Rattle.rustzx.specs.Memory.{ZXMemory, getPage}
+use Rattle.rustzx.specs.Memory.{getPage}
 use Rattle.rustzx.specs.Colors.{fromBits}
 use Rattle.rustzx.specs.Controller as rust
 use Rattle.rustzx.specs.Controller.{ZXController, pageIsContended, addrIsContended, waitInternal, doContentionAndWait, doContention, contendedFirst, ioContentionFirst, ioContentionLast, setBorderColor, toExtender, toAySelect, toAyWrite, toBorder, toNobody, Reached, Wrote, reaches, waitMreq, readIo, is128K, extenderWrite, writeIo}
@@ -38,7 +38,7 @@ use Rattle.rustzx.specs.Related.{ourMachine, Related}
 use Rattle.rustzx.specs.Calls.{reachedCode, pagingCode}
 use Rattle.rustzx.proofs.Timing.{contention-is, port-is}
 use Rattle.rustzx.proofs.Helpers.{from-bits-done, color-byte-is}
-use Rattle.rustzx.proofs.Pages.{contended-is}
+use Rattle.rustzx.proofs.Pages.{contended-is, page-is}
 use Rattle.rustzx.proofs.Steps.{wait-related, colour-related}
 use Rattle.rustzx.proofs.Stores.{paging-related}
 use Rattle.rustzx.proofs.PortReads.{floating-is, order-is}
@@ -76,7 +76,8 @@ module _ (m : ZXMachine) (rom : List ℕ) where
   -- addr_is_contended, on related states
   contended-follows : (addr : ℕ) (c : ZXController) (w : World) → Related m rom c w → addrIsContended c addr ≡ contended (ourMachine m) addr (w .core)
   contended-follows addr c w r =
-      ap₂ (λ (n : ZXMachine) (mem : ZXMemory). pageIsContended n (getPage mem addr)) (r .machine) (r .memory) ∙ contended-is m (w .core .paging) addr
+      ap (λ (n : ZXMachine). pageIsContended n (getPage (c .memory) addr)) (r .machine) ∙ contended-is m (getPage (c .memory) addr)
+      ∙ ap (pageContended (ourMachine m)) (page-is (ourMachine m) rom (w .core .ram) (w .core .paging) (c .memory) (r .memory) addr)
 
   -- do_contention_and_wait and do_contention
   held-follows : (n : ℕ) → Follows (heldStep (ourMachine m) n) (doContentionAndWait n)

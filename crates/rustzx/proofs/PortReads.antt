@@ -35,10 +35,10 @@ use Rattle.bus.specs.World.{Core, World}
 use Rattle.bus.specs.Calls.{floatingByte, floatingBus, answered}
 use Rattle.rustzx.specs.Machine.{ZXMachine, Sinclair48K, Sinclair128K}
 use Rattle.rustzx.specs.Panics.{Run, done, each}
-use Rattle.rustzx.specs.Memory.{ZXMemory, read}
+use Rattle.rustzx.specs.Memory.{read}
 use Rattle.rustzx.specs.Addresses.{bitmapLineAddr}
 use Rattle.rustzx.specs.Controller.{ZXController, keyboardByte, rowRead, ulaRead, floatingColumn, fetchFloating, floatingBusValue, joystickRead, ayRead, afterMouse, mouseRead, extenderRead}
-use Rattle.rustzx.specs.Related.{ourMachine, memoryOf, Related}
+use Rattle.rustzx.specs.Related.{ourMachine, SameMemory, Related}
 use Rattle.rustzx.proofs.Loops.{each-last}
 use Rattle.rustzx.proofs.Timing.{numbers, port-is}
 use Rattle.rustzx.proofs.Helpers.{line-address-is}
@@ -95,12 +95,12 @@ idle-bit : (r : ℕ) (t : Bool) → ltb 3 (r % 8) ≡ t → eqb (bitAnd r 0x04) 
 idle-bit r true e = let h = ltb-true 3 (r % 8) e in mask-bit 2 r ∙ ap not (eq-eqb (r / 4 % 2) 1 (omega arith))
 idle-bit r false e = let h = ltb-false 3 (r % 8) e in mask-bit 2 r ∙ ap not (ne-eqb (r / 4 % 2) 1 (λ g. omega arith))
 
-module _ (m : ZXMachine) (rom : List ℕ) (c : ZXController) (core : Core) (mem : c .memory ≡ memoryOf m rom core) where
+module _ (m : ZXMachine) (rom : List ℕ) (c : ZXController) (core : Core) (mem : SameMemory (ourMachine m) rom (core .ram) (core .paging) (c .memory)) where
   abbrev byte : FloatingPlace → ℕ
   byte p = floatingByte (ourMachine m) (floatingAddress p) core
 
   read-video : (addr : ℕ) → addr / 16384 ≡ 1 → read (c .memory) addr ≡ byteAt (ourMachine m) (core .paging) [] (core .ram) addr
-  read-video addr e = ap (λ (x : ZXMemory). read x addr) mem ∙ read-is m rom core addr ∙ video-byte m (core .paging) rom (core .ram) addr e
+  read-video addr e = read-is (ourMachine m) rom (core .ram) (core .paging) (c .memory) mem addr ∙ video-byte m (core .paging) rom (core .ram) addr e
 
   pick-byte : (t : Bool) {x y : Run ℕ} (u v : FloatingPlace) → x ≡ done (byte u) → y ≡ done (byte v) → cond t x y ≡ done (byte (cond t u v))
   pick-byte true u v p q = p
@@ -134,7 +134,7 @@ module _ (m : ZXMachine) (rom : List ℕ) (c : ZXController) (core : Core) (mem 
       (floating-at row r (leb 192 row) (leb 124 r) (ltb 3 (r % 8)) refl refl refl)
 
 -- The floating bus gives the same byte, at every clock.
-floating-by : (m : ZXMachine) (rom : List ℕ) (c : ZXController) (core : Core) → c .machine ≡ m → c .memory ≡ memoryOf m rom core → c .frameClocks ≡ core .clock
+floating-by : (m : ZXMachine) (rom : List ℕ) (c : ZXController) (core : Core) → c .machine ≡ m → SameMemory (ourMachine m) rom (core .ram) (core .paging) (c .memory) → c .frameClocks ≡ core .clock
     → floatingBusValue c ≡ done (floatingBus (ourMachine m) core)
 unfolding floatingBusValue floatingBus floatingPlace
 floating-by m rom c core e mem t =

@@ -1,7 +1,7 @@
 -- The Rust's new controller, with the ROM that the host loads, and the world that a start leaves are related.
 -- Assumes nothing.
 use mathlib.Core.Path.{_≡_, refl, sym, ap, _∙_}
-use mathlib.Core.List.{List}
+use mathlib.Core.List.{List, map}
 use Prim.Native.Nat.{ℕ, _+_, _*_, _/_, _%_, _<_, _≤_}
 use native.Mathlib.Omega.{arith}
 use lib.ListN.{length, getD, drop, replicate, length-replicate, getD-replicate}
@@ -19,7 +19,7 @@ use Rattle.rustzx.specs.Screen as screen
 use Rattle.rustzx.specs.Screen.{blackAttribute, newBank}
 use Rattle.rustzx.specs.Border as border
 use Rattle.rustzx.specs.Controller.{paged, firstBank, new, withRom}
-use Rattle.rustzx.specs.Related.{ourMachine, Mirrors, Mirrored, activeOf, SameBorder, pagingOpen, Related}
+use Rattle.rustzx.specs.Related.{ourMachine, ourPage, Mirrors, Mirrored, activeOf, SameBorder, pagingOpen, Related}
 use Rattle.rustzx.proofs.Steps.{sound-in-step}
 
 zeros-clear : (m : ZXMachine) (n : ℕ) → n ≡ specsOf (ourMachine m) .ram → zeros n ≡ clearRam (ourMachine m)
@@ -68,13 +68,13 @@ new-border : SameBorder border.newBorder (started (ourMachine Sinclair48K) .edge
 new-border = record { pixels = same-borders; beam = refl; colour = refl; blocked = refl; unchanged = λ e. refl }
 
 -- the start of either machine, from what only its own case decides
-start-by : (m : ZXMachine) (rom : List ℕ) → length rom ≡ specsOf (ourMachine m) .rom → newMemory m .ram ≡ clearRam (ourMachine m) → newMemory m .map ≡ memoryMap (ourMachine m) 0
+start-by : (m : ZXMachine) (rom : List ℕ) → length rom ≡ specsOf (ourMachine m) .rom → newMemory m .ram ≡ clearRam (ourMachine m) → map ourPage (newMemory m .map) ≡ memoryMap (ourMachine m) 0
     → 0 ≡ activeOf m 0 → paged m ≡ pagingOpen m 0 → firstBank m ≡ shownPage (ourMachine m) 0 → Mirrored m newBank newBank (clearRam (ourMachine m))
     → Related m rom (withRom rom (new m)) (started (ourMachine m))
-start-by m rom long ram map active enabled bank mirrored =
+start-by m rom long ram pages active enabled bank mirrored =
     record {
       machine = refl;
-      memory = rw (ram, map);
+      memory = record { rom = refl; ram = ram; pages = pages };
       screen = record {
         position = refl;
         columns = omega arith;

@@ -12,12 +12,12 @@ use lib.Seq.{take-set-le, take-set-lt, drop-set-lt, drop-set-add, length-take-le
 use Rattle.laws.proofs.Cases.{by-bool, by-eq, split}
 use Rattle.machine.specs.Numbers.{specsOf}
 use Rattle.screen.proofs.OneBit.{mask-bit}
-use Rattle.memory.specs.declared.Page.{Page}
+use Rattle.memory.specs.declared.Page as stored
 use Rattle.memory.specs.declared.Page.the-variants as page
 use Rattle.memory.specs.declared.Paged.{Paged}
 use Rattle.memory.specs.Paging as paging
 use Rattle.memory.specs.Paging.{bitSet, memoryMap, pageAt, shownPage, pageExists, pagedCode}
-use Rattle.memory.specs.Memory.{placeIn, placeOf, poked, ramPage, loaded}
+use Rattle.memory.specs.Memory.{placeIn, placeOf, pokedIn, poked, ramPage, loaded}
 use Rattle.memory.proofs.Places.{map-holds, exists-fits}
 use Rattle.memory.proofs.Stored.{length-loaded}
 use Rattle.bus.specs.World.{Core, Screen, World}
@@ -25,15 +25,15 @@ use Rattle.bus.specs.Time.{paged, poke, load, inCore, inScreen, inEdge, does, w
 use Rattle.bus.specs.Calls.{repaged, pagingWrite}
 use Rattle.rustzx.specs.Machine.{ZXMachine, Sinclair48K, Sinclair128K}
 use Rattle.rustzx.specs.Panics.{Run, done, andThen, each, Ends}
-use Rattle.rustzx.specs.Memory.{ZXMemory, getPage, write, loadPage}
+use Rattle.rustzx.specs.Memory.{Page, Rom, Ram, ZXMemory, getPage, write, loadPage}
 use Rattle.rustzx.specs.Screen.{ScreenBank, ZXScreen, LocalBank, some, none, localBank, withActive, switchTo, switchBank, withBank, updateIn, update}
 use Rattle.rustzx.specs.Controller.{ZXController, withMemory, withPaging, toPaging, Wrote, reaches, newScreenBank, remapped, stillEnabled, write7ffd, updated, writeInternal, refreshByte, refreshPage, refreshed, loadAndRefresh}
-use Rattle.rustzx.specs.Related.{ourMachine, Mirrors, Mirrored, activeOf, SameScreen, memoryOf, Related}
+use Rattle.rustzx.specs.Related.{ourMachine, ourPage, Mirrors, Mirrored, activeOf, SameScreen, SameMemory, Related}
 use Rattle.bus.specs.Pokes.{poking, byteWrite}
 use Rattle.rustzx.specs.Calls.{reachedCode, pagingCode}
 use Rattle.rustzx.proofs.Loops.{each-last}
 use Rattle.rustzx.proofs.Screens.{banks-screen}
-use Rattle.rustzx.proofs.Pages.{write-is, remap-is, page-data-is, load-is}
+use Rattle.rustzx.proofs.Pages.{page-is, write-is, remap-is, page-data-is, load-is}
 use Rattle.rustzx.proofs.Banks.{put, update-is, put-mirrors, putAll, all-mirrors}
 
 -- ---- the 7FFD write
@@ -91,16 +91,15 @@ module _ (rom : List ℕ) (c : ZXController) (w : World) (v : ℕ) (r : Related 
   unfolding inCore inScreen inEdge
   taken e =
       let enabled : c .pagingEnabled ≡ true = r .enabled ∙ ap not e in
+      let next = remap-is rom (w .core .ram) (w .core .paging) v (c .memory) (r .memory) (r .romLong) (r .ramLong) in
       record {
         value = _;
-        ends = opened v c (record { rom = rom; ram = w .core .ram; map = memoryMap (ourMachine Sinclair128K) v }) enabled
-            (ap (remapped v) (r .memory)
-            ∙ remap-is rom (w .core .ram) (w .core .paging) v (r .romLong) (r .ramLong));
+        ends = opened v c (next .value) enabled (next .ends);
         holds = (
           refl,
           record {
             machine = r .machine;
-            memory = refl;
+            memory = next .holds;
             screen = repaged-screen;
             border = r .border;
             reported = r .reported;
@@ -192,22 +191,27 @@ module _ (m : ZXMachine) (rom : List ℕ) (c : ZXController) (w : World) (addr v
   abbrev rel : ℕ
   rel = addr % 16384
 
-  written : write (c .memory) addr v ≡ record { rom = rom; ram = poked (ourMachine m) (w .core .paging) (w .core .ram) addr v; map = memoryMap (ourMachine m) (w .core .paging) }
-  written = ap (λ (mem : ZXMemory). write mem addr v) (r .memory) ∙ write-is m rom (w .core) addr v
+  written : SameMemory (ourMachine m) rom (poked (ourMachine m) (w .core .paging) (w .core .ram) addr v) (w .core .paging) (write (c .memory) addr v)
+  written = write-is (ourMachine m) rom (w .core .ram) (w .core .paging) (c .memory) (r .memory) addr v
 
-  page-after : getPage (write (c .memory) addr v) addr ≡ pageAt (ourMachine m) (w .core .paging) (addr / 16384)
-  page-after = ap (λ (mem : ZXMemory). getPage mem addr) written
+  page-after : ourPage (getPage (write (c .memory) addr v) addr) ≡ pageAt (ourMachine m) (w .core .paging) (addr / 16384)
+  page-after = page-is (ourMachine m) rom _ (w .core .paging) (write (c .memory) addr v) written addr
 
-  on-page : (p : Page) → pageAt (ourMachine m) (w .core .paging) (addr / 16384) ≡ p
-      → Ends (updated p addr v c) (λ c′. Related m rom c′ (worldAfter (ourMachine m) (poking (placeIn p rel) v) w))
+  written-to : (p : stored.Page) → p ≡ pageAt (ourMachine m) (w .core .paging) (addr / 16384)
+      → SameMemory (ourMachine m) rom (pokedIn (placeIn p rel) (w .core .ram) v) (w .core .paging) (write (c .memory) addr v)
+  unfolding placeOf
+  written-to p e = rw e written
+
+  on-page : (p : Page) → ourPage p ≡ pageAt (ourMachine m) (w .core .paging) (addr / 16384)
+      → Ends (updated p addr v c) (λ c′. Related m rom c′ (worldAfter (ourMachine m) (poking (placeIn (ourPage p) rel) v) w))
   unfolding inCore inScreen inEdge worldAfter placeOf
-  on-page (page.Rom p) e =
+  on-page (Rom p) e =
       record {
         value = _;
         ends = refl;
         holds = record {
           machine = r .machine;
-          memory = rw e at written;
+          memory = written-to (page.Rom p) e;
           screen = r .screen;
           border = r .border;
           reported = r .reported;
@@ -221,15 +225,15 @@ module _ (m : ZXMachine) (rom : List ℕ) (c : ZXController) (w : World) (addr v
           inStep = r .inStep;
         };
       }
-  on-page (page.Ram p) e =
-      let fits : 16384 * p + 16384 ≤ length (w .core .ram) = omega (arith, r .ramLong, rw e at (map-holds (ourMachine m) (w .core .paging) (addr / 16384))) in
+  on-page (Ram p) e =
+      let fits : 16384 * p + 16384 ≤ length (w .core .ram) = omega (arith, r .ramLong, rw (sym e) at (map-holds (ourMachine m) (w .core .paging) (addr / 16384))) in
       record {
         value = withMemory (write (c .memory) addr v) (bankPut (localBank m p) rel v (c .screen)) c;
         ends = ap (λ (n : ZXMachine). andThen (update n rel p v (c .screen)) (λ s. done (withMemory (write (c .memory) addr v) s c))) (r .machine)
             ∙ ap (λ (x : Run ZXScreen). andThen x (λ s. done (withMemory (write (c .memory) addr v) s c))) (update-any (localBank m p) rel v (c .screen));
         holds = record {
           machine = r .machine;
-          memory = rw e at written;
+          memory = written-to (page.Ram p) e;
           screen = put-screen m (localBank m p) rel v (c .screen) (w .core) (inCore (ourMachine m) (poke (16384 * p + rel) v) (w .core)) (w .screen) (r .screen) refl refl
               (mirrored-put m p rel v (c .screen) (w .core .ram) (omega arith) fits (r .screen .mirrored));
           border = r .border;
@@ -248,7 +252,9 @@ module _ (m : ZXMachine) (rom : List ℕ) (c : ZXController) (w : World) (addr v
   -- write_internal is the byte write, and its update keeps the mirrors.
   pub poke-related : Ends (writeInternal addr v c) (λ c′. Related m rom c′ (worldAfter (ourMachine m) (byteWrite (ourMachine m) addr v (w .core)) w))
   unfolding writeInternal placeOf
-  poke-related = rw page-after (on-page (pageAt (ourMachine m) (w .core .paging) (addr / 16384)) refl)
+  poke-related =
+      subst (λ (p : stored.Page). Ends (updated (getPage (write (c .memory) addr v) addr) addr v c) (λ c′. Related m rom c′ (worldAfter (ourMachine m) (poking (placeIn p rel) v) w))) page-after
+      (on-page (getPage (write (c .memory) addr v) addr) page-after)
 
 -- ---- a page loaded, and the refresh that follows it
 twice : (t : Bool) (f g : ScreenBank → ScreenBank) (x y : ScreenBank) → (cond t (f (cond t (g x) x)) (cond t (g x) x) ≡ cond t (f (g x)) x)
@@ -326,19 +332,20 @@ pub load-related : (m : ZXMachine) (rom : List ℕ) (c : ZXController) (w : Worl
 unfolding loadAndRefresh inCore inScreen inEdge
 load-related m rom c w p bytes r there whole =
     let fits : 16384 * p + 16384 ≤ length (w .core .ram) = omega (arith, r .ramLong, exists-fits (ourMachine m) p there) in
-    let mem : ZXMemory = record { rom = rom; ram = loaded p bytes (w .core .ram); map = memoryMap (ourMachine m) (w .core .paging) } in
+    let mem : ZXMemory = record { rom = c .memory .rom; ram = loaded p bytes (c .memory .ram); map = c .memory .map } in
+    let same : mem .ram ≡ loaded p bytes (w .core .ram) = ap (loaded p bytes) (r .memory .ram) in
     let long : length (loaded p bytes (w .core .ram)) ≡ specsOf (ourMachine m) .ram = length-loaded p bytes (w .core .ram) whole fits ∙ r .ramLong in
-    let f = refresh-is m mem (c .screen) (w .core) (inCore (ourMachine m) (load p bytes) (w .core)) (w .screen) (r .screen) refl refl refl long in
+    let f = refresh-is m mem (c .screen) (w .core) (inCore (ourMachine m) (load p bytes) (w .core)) (w .screen) (r .screen) refl refl (sym same) (ap length same ∙ long) in
     record {
       value = withMemory mem (f .value) c;
       ends =
           ap (λ (x : Run ZXMemory). andThen x (λ mem. andThen (refreshed (c .machine) mem (c .screen)) (λ s. done (withMemory mem s c))))
-          (ap (λ (x : ZXMemory). loadPage x p bytes) (r .memory) ∙ (rw there at (load-is m (memoryOf m rom (w .core)) (r .ramLong) p bytes)))
+          (rw there at (load-is m (c .memory) (ap length (r .memory .ram) ∙ r .ramLong) p bytes))
           ∙ ap (λ (n : ZXMachine). andThen (refreshed n mem (c .screen)) (λ s. done (withMemory mem s c))) (r .machine)
           ∙ ap (λ (x : Run ZXScreen). andThen x (λ s. done (withMemory mem s c))) (f .ends);
       holds = record {
         machine = r .machine;
-        memory = refl;
+        memory = record { rom = r .memory .rom; ram = same; pages = r .memory .pages };
         screen = f .holds;
         border = r .border;
         reported = r .reported;

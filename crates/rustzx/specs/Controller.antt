@@ -9,8 +9,6 @@ use lib.ListN.{getD}
 use lib.Bits.{bitAnd, bitXor}
 use Rattle.screen.specs.declared.ZXColor.{ZXColor}
 use Rattle.screen.specs.declared.ZXColor.the-variants.{Black}
-use Rattle.memory.specs.declared.Page.{Page}
-use Rattle.memory.specs.declared.Page.the-variants.{Rom, Ram}
 use Rattle.ports.specs.declared.Devices.{Devices}
 use Rattle.ports.specs.declared.Extender.{Extender}
 use Rattle.ports.specs.declared.Extender.the-variants as extender
@@ -24,7 +22,7 @@ use Rattle.rustzx.specs.Panics.{Run, done, andThen, each}
 use Rattle.rustzx.specs.Machine.{ZXMachine, Sinclair48K, Sinclair128K, specs, contentionClocks, portIsContended, bankIsContended}
 use Rattle.rustzx.specs.Addresses.{canvasHeight, bitmapLineAddr}
 use Rattle.rustzx.specs.Colors.{fromBits}
-use Rattle.rustzx.specs.Memory.{ZXMemory, pageSize, newMemory, getPage, read, write, remap, ramPageData, loadPage}
+use Rattle.rustzx.specs.Memory.{Page, Rom, Ram, ZXMemory, pageSize, newMemory, getPage, read, write, remap, ramPageData, loadPage}
 use Rattle.rustzx.specs.Screen as screen
 use Rattle.rustzx.specs.Screen.{ZXScreen, newScreen, switchBank, processClocks, update}
 use Rattle.rustzx.specs.Border as border

@@ -3,30 +3,37 @@
 use Prim.Native.Nat.{ℕ, _+_, _*_, _%_, _<_, _≤_}
 use mathlib.Core.Path.{_≡_}
 use mathlib.Core.Bool.{Bool, true, false, cond, not}
-use mathlib.Core.List.{List}
+use mathlib.Core.List.{List, map}
 use lib.ListN.{length, getD}
 use Rattle.machine.specs.declared.ZXMachine as ours
-use Rattle.machine.specs.declared.ZXMachine.the-variants as our
+use Rattle.machine.specs.declared.ZXMachine.the-variants as machine
 use Rattle.machine.specs.Numbers.{specsOf}
 use Rattle.machine.specs.Timing.{blockPosition, frameEnd}
 use Rattle.offsets.specs.Offset.{offsetOf}
 use Rattle.screen.specs.Color.{attributeOf}
 use Rattle.border.specs.Edge.{Edge}
+use Rattle.memory.specs.declared.Page as stored
+use Rattle.memory.specs.declared.Page.the-variants as page
 use Rattle.memory.specs.Paging.{bitSet, memoryMap, shownPage}
 use Rattle.memory.specs.Memory.{ramPage}
 use Rattle.bus.specs.World.{Core, Screen, World}
 use Rattle.bus.specs.Time.{flashOn, shownPicture, hiddenPicture}
 use Rattle.rustzx.specs.Machine.{ZXMachine, Sinclair48K, Sinclair128K}
 use Rattle.rustzx.specs.Colors.{colorByte}
-use Rattle.rustzx.specs.Memory.{ZXMemory}
+use Rattle.rustzx.specs.Memory.{Page, Rom, Ram, ZXMemory}
 use Rattle.rustzx.specs.Screen.{ScreenBank, ZXScreen, blackAttribute, blockIndex}
 use Rattle.rustzx.specs.Border.{ZXBorder, screenWidth}
 use Rattle.rustzx.specs.Controller.{ZXController}
 
 -- the Rust's two machines among ours
 abbrev pub ourMachine : ZXMachine → ours.ZXMachine
-ourMachine Sinclair48K = our.Sinclair48K
-ourMachine Sinclair128K = our.Sinclair128K
+ourMachine Sinclair48K = machine.Sinclair48K
+ourMachine Sinclair128K = machine.Sinclair128K
+
+-- and its pages
+abbrev pub ourPage : Page → stored.Page
+ourPage (Rom p) = page.Rom p
+ourPage (Ram p) = page.Ram p
 
 -- "RAM is the sole store of video bytes; the Rust's mirrored banks equal it": the bitmap in raster order, the attributes taken apart
 pub record Mirrors (b : ScreenBank) (page : List ℕ) : Type 0 where
@@ -65,8 +72,10 @@ pub record SameBorder (b : ZXBorder) (e : Edge) : Type 0 where
   pub unchanged : b .borderChanged ≡ false → e .pairs ≡ 0
 
 -- the memory: the lent ROM, the RAM, and the map that the 7FFD byte decides
-abbrev pub memoryOf : ZXMachine → List ℕ → Core → ZXMemory
-memoryOf m rom c = record { rom = rom; ram = c .ram; map = memoryMap (ourMachine m) (c .paging) }
+pub record SameMemory (m : ours.ZXMachine) (lentRom lentRam : List ℕ) (paging : ℕ) (mem : ZXMemory) : Type 0 where
+  pub rom : mem .rom ≡ lentRom
+  pub ram : mem .ram ≡ lentRam
+  pub pages : map ourPage (mem .map) ≡ memoryMap m paging
 
 -- paging is open on 128K until bit 5 of a 7FFD byte locks it
 abbrev pub pagingOpen : ZXMachine → ℕ → Bool
@@ -82,7 +91,7 @@ pub record InStep (m : ours.ZXMachine) (w : World) : Type 0 where
 
 pub record Related (m : ZXMachine) (rom : List ℕ) (c : ZXController) (w : World) : Type 0 where
   pub machine : c .machine ≡ m
-  pub memory : c .memory ≡ memoryOf m rom (w .core)
+  pub memory : SameMemory (ourMachine m) rom (w .core .ram) (w .core .paging) (c .memory)
   pub screen : SameScreen m (c .screen) (w .core) (w .screen)
   pub border : SameBorder (c .border) (w .edge)
   pub reported : colorByte (c .borderColor) ≡ w .core .reported

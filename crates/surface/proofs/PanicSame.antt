@@ -21,7 +21,6 @@ use Rattle.answers.specs.Judges.{judgeLoad, judgeRamPageTold, judgeBlockTold}
 use Rattle.contracts.specs.Timed.{Lent, lentWorld}
 use Rattle.contracts.specs.Plain as ulb
 use Rattle.rustzx.specs.Panics.{panics}
-use Rattle.rustzx.specs.Memory.{ZXMemory}
 use Rattle.rustzx.specs.Controller.{ZXController, loadAndRefresh}
 use Rattle.rustzx.specs.Related.{ourMachine}
 use Rattle.rustzx.specs.Calls as rust
@@ -43,7 +42,7 @@ module _ (rom : List ℕ) (c : ZXController) (l : Lent) (s : SameLent rom c l) w
 
   -- the Rust by its own tests
   ram-long : length (c .memory .ram) ≡ specsOf (ourMachine (c .machine)) .ram
-  ram-long = ap (λ (x : ZXMemory). length (x .ram)) (s .related .memory) ∙ s .related .ramLong
+  ram-long = ap length (s .related .memory .ram) ∙ s .related .ramLong
 
   own-pages : (number : ℕ) → pageExists m number ≡ false → pageExists (ourMachine (c .machine)) number ≡ false
   own-pages number e = ap (λ (n : ZXMachine). pageExists n number) (s .machine) ∙ e
@@ -58,7 +57,7 @@ module _ (rom : List ℕ) (c : ZXController) (l : Lent) (s : SameLent rom c l) w
 
   block-panics : (block : ℕ) → leb block 3 ≡ false → performed (rust.blockOf block) c ≡ panics
   unfolding performed
-  block-panics block e = rw (s .related .memory, rw e at (bank-type-is (c .machine) rom (w .core) block))
+  block-panics block e = rw (rw e at (bank-type-is (c .memory) block))
 
   -- a call whose number alone decides, beside the Rust's
   by-number : (k : Call) (e : Refusal) (good : Bool) (v : Verdict) → v ≡ cond good (Accepted bus) (Refused e) → (good ≡ true → rust.Accepted m k w)
