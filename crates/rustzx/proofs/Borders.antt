@@ -13,12 +13,11 @@ use Rattle.machine.specs.declared.BorderPlace.the-variants.{At, FrameEnd}
 use Rattle.machine.specs.Numbers.{specsOf}
 use Rattle.machine.specs.Timing.{borderAt, isFrameEnd}
 use Rattle.machine.proofs.Bounds.{Within, border-within}
-use Rattle.screen.specs.declared.ZXColor.{ZXColor}
 use Rattle.border.specs.Edge.{Edge, filled, inked, inkedAt, finished}
 use Rattle.border.proofs.Fills.{filled-none}
 use Rattle.rustzx.specs.Machine.{ZXMachine}
 use Rattle.rustzx.specs.Panics.{each}
-use Rattle.rustzx.specs.Colors.{colorByte}
+use Rattle.rustzx.specs.Colors.{ZXColor, colorByte}
 use Rattle.rustzx.specs.Border.{BeamInfo, ZXBorder, screenWidth, pixelIndex, fillTo, reset, whole, newFrame, setAt, setBorder}
 use Rattle.rustzx.specs.Related.{ourMachine, SameBorder}
 use Rattle.rustzx.proofs.Timing.{nextOf, border-is}

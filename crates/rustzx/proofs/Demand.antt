@@ -35,7 +35,7 @@ use Rattle.rustzx.specs.Machine.{ZXMachine, Sinclair48K, Sinclair128K, s
 use Rattle.rustzx.specs.Memory.{Page, Rom, Ram, ZXMemory, ramPageData, pageData, blockData}
 use Rattle.rustzx.specs.Controller as rust
 use Rattle.rustzx.specs.Controller.{ZXController, Reached, Wrote, new, withRom}
-use Rattle.rustzx.specs.Related.{ourMachine, ourPage, Related}
+use Rattle.rustzx.specs.Related.{ourMachine, ourPage, attachedOf, Related}
 use Rattle.bus.specs.Pokes.{poking, byteWrite, pageLoad, passedReset}
 use Rattle.rustzx.specs.Calls.{Call, waitInternal, waitMreq, waitNoMreq, readIo, writeIo, readInternal, writeInternal, write7ffd, read7ffd, intActive, framesCount, resetFrameCounter, loadPage, ramPageOf, blockOf, screenBuffer, borderBuffer, Given, reachedCode, pagingCode, gives, acted, wrote, told, performed, partOf, answerOf, after, Accepted, Seen, allPerformed, allAnswers, afterAll, AllAccepted, TimedByRust}
 use Rattle.rustzx.proofs.Timing.{frame-is, interrupt-is}
@@ -148,7 +148,7 @@ module _ (m : ZXMachine) (rom : List ℕ) (c : ZXController) (w : World) (r : Re
         holds = (ap (λ (v : ℕ). v ∷ []) (e .holds .0), to-ran m rom (portRead (ourMachine m) port) _ w (e .holds .1));
       }
   call-agrees (writeIo d port value) s a =
-      wrote-ends m rom (portWrite (ourMachine m) d port value) w reachedCode _ (rust.writeIo d port value c) (write-follows m rom d port value c w r)
+      wrote-ends m rom (portWrite (ourMachine m) d port value) w reachedCode _ (rust.writeIo (attachedOf d) port value c) (write-follows m rom d port value c w r)
   call-agrees (readInternal addr) s a =
       record {
         value = gives c (rust.readInternal addr c ∷ []);

@@ -12,20 +12,18 @@ use Rattle.machine.specs.declared.ZXMachine as ours
 use Rattle.machine.specs.declared.ZXMachine.the-variants as our
 use Rattle.machine.specs.Numbers.{specsOf}
 use Rattle.screen.specs.Color.{colorOf}
-use Rattle.screen.proofs.RoundTrips.{number-then-color}
 use Rattle.memory.specs.Paging.{bit, memoryMap, shownPage}
 use Rattle.memory.specs.Memory.{ramPage}
 use Rattle.bus.specs.World.{World}
 use Rattle.bus.specs.Time.{flashOn, shownPicture, hiddenPicture}
 use Rattle.bus.proofs.Kept.{SoundWorld}
 use Rattle.rustzx.specs.Machine.{ZXMachine, Sinclair48K, Sinclair128K}
-use Rattle.rustzx.specs.Colors.{colorByte}
 use Rattle.rustzx.specs.Memory.{Page, Rom, Ram}
 use Rattle.rustzx.specs.Screen.{ZXScreen, blackAttribute, newBank}
 use Rattle.rustzx.specs.Border.{ZXBorder}
 use Rattle.rustzx.specs.Controller.{ZXController}
 use Rattle.rustzx.specs.Related.{ourMachine, ourPage, Mirrors, Mirrored, activeOf, pagingOpen, Related}
-use Rattle.rustzx.proofs.Helpers.{color-byte-is}
+use Rattle.rustzx.proofs.Helpers.{rustColor, color-back}
 use Rattle.rustzx.proofs.Banks.{putAll, all-mirrors}
 use Rattle.rustzx.proofs.Steps.{sound-in-step}
 
@@ -51,7 +49,7 @@ abbrev pub borderOf : World → ZXBorder
 borderOf w =
     record {
       buffer = w .edge .pixels;
-      beamLast = record { line = 2 * w .edge .pairs / 320; pixel = 2 * w .edge .pairs % 320; color = colorOf (w .edge .colour) };
+      beamLast = record { line = 2 * w .edge .pairs / 320; pixel = 2 * w .edge .pairs % 320; color = rustColor (colorOf (w .edge .colour)) };
       borderChanged = true;
       beamBlock = w .edge .blocked;
     }
@@ -73,7 +71,7 @@ rustOf m rom w =
       memory = record { rom = rom; ram = w .core .ram; map = mapOf m (w .core .paging) };
       screen = screenOf m w;
       border = borderOf w;
-      borderColor = colorOf (w .core .reported);
+      borderColor = rustColor (colorOf (w .core .reported));
       frameClocks = w .core .clock;
       passedFrames = w .core .passed;
       pagingEnabled = pagingOpen m (w .core .paging);
@@ -94,9 +92,6 @@ filled page = all-mirrors page newBank (new-lengths .1) (new-lengths .0)
 banks : (m : ZXMachine) (w : World) → Mirrored m (screenOf m w .bank0) (screenOf m w .bank1) (w .core .ram)
 banks Sinclair48K w = filled (ramPage 0 (w .core .ram))
 banks Sinclair128K w = (filled (ramPage 5 (w .core .ram)), filled (ramPage 7 (w .core .ram)))
-
-color-back : (n : ℕ) → n < 8 → colorByte (colorOf n) ≡ n
-color-back n h = color-byte-is (colorOf n) ∙ number-then-color n (omega arith) .1
 
 -- Our machines are the Rust's two. This is the one statement that a further machine of ours, of which the Rust has no state, would end.
 pub every-machine : (m : ours.ZXMachine) → (z : ZXMachine) × (ourMachine z ≡ m)

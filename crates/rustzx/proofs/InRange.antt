@@ -3,9 +3,9 @@
 -- Assumes nothing.
 use mathlib.Core.Path.{_≡_, refl, sym, ap, _∙_}
 use mathlib.Core.List.{List}
-use Prim.Native.Nat.{ℕ, _+_, _-_, _*_, _/_, _%_, _<_, _≤_}
+use Prim.Native.Nat.{ℕ, _+_, _-_, _*_, _/_, _%_, _^_, _<_, _≤_}
 use native.Mathlib.Omega.{arith}
-use lib.Dec.{lit<}
+use lib.Dec.{ltb, leb, lit<}
 use lib.ListN.{length, length-map}
 use Rattle.laws.proofs.Cases.{by-bool}
 use Rattle.machine.specs.declared.BorderPlace.{BorderPlace}
@@ -21,11 +21,11 @@ use Rattle.memory.specs.Memory.{Holds}
 use Rattle.memory.proofs.Places.{map-holds}
 use Rattle.offsets.specs.Offset.{lineStart}
 use Rattle.bus.specs.World.{World}
-use Rattle.rustzx.specs.Machine.{ZXMachine, Sinclair48K, Sinclair128K}
+use Rattle.rustzx.specs.Machine.{ZXMachine, Sinclair48K, Sinclair128K, specs}
 use Rattle.rustzx.specs.Memory.{Page, Rom, Ram, ZXMemory, pageSize, getPage}
-use Rattle.rustzx.specs.Screen.{fromClocks, blockIndex, activeBankOf}
+use Rattle.rustzx.specs.Screen.{fromClocks, passedFrom, ZXScreen, blockIndex, activeBankOf, processClocks, newFrame}
 use Rattle.rustzx.specs.Border.{nextBorderPixel, screenWidth}
-use Rattle.rustzx.specs.Controller.{ZXController, floatingColumn}
+use Rattle.rustzx.specs.Controller.{ZXController, floatingColumn, waitInternal}
 use Rattle.rustzx.specs.Related.{ourMachine, ourPage, activeOf, Related}
 use Rattle.rustzx.proofs.Timing.{blocks-are, nextOf, border-is}
 use Rattle.rustzx.proofs.Screens.{active-mirrors}
@@ -105,3 +105,23 @@ fills-in-range m t = rw (border-is m t) (next-small (borderAt (specsOf (ourMachi
 -- the floating bus: the address that it reads fits 16 bits
 pub floating-in-range : (row r : ℕ) → row < 192 → r < 124 → (0x4000 + lineStart row + floatingColumn r < 65536) × (0x5800 + (row / 8 * 32 + floatingColumn r) < 65536)
 floating-in-range row r h k = (omega arith, omega arith)
+
+-- ---- frame_counter and passed_frames are usizes, and the definitions let them grow without end. Only new_frame raises them, by one each, so that they
+-- rise together. passed_frames is 4,294,967,294 at most where a timed call is accepted, and one more after it, which 32 bits hold ..
+process-counter : (m : ZXMachine) (t : ℕ) (s : ZXScreen) → processClocks m t s .frameCounter ≡ s .frameCounter
+unfolding processClocks
+process-counter m t s =
+    by-bool (λ (x : ZXScreen). x .frameCounter ≡ s .frameCounter) (ltb 0 (passedFrom (fromClocks m t) (s .lastBlocks))) (λ e. refl) (λ e. refl)
+
+pub counters-together : (n : ℕ) (c : ZXController)
+    → waitInternal n c .screen .frameCounter + c .passedFrames ≡ c .screen .frameCounter + waitInternal n c .passedFrames
+unfolding waitInternal newFrame
+counters-together n c =
+    let p = process-counter (c .machine) (c .frameClocks + n) (c .screen) in
+    by-bool (λ (x : ZXController). x .screen .frameCounter + c .passedFrames ≡ c .screen .frameCounter + x .passedFrames)
+    (leb (specs (c .machine) .clocksFrame) (c .frameClocks + n)) (λ e. omega arith) (λ e. omega arith)
+
+-- .. and frame_counter, which nothing sets back, counts the frames since the start. Where it starts again at 2^32 or 2^64, its value modulo 32, all that
+-- the relation asks of it, is what it would have been.
+pub counter-wraps : (n : ℕ) → (n % 2 ^ 32 % 32 ≡ n % 32) × (n % 2 ^ 64 % 32 ≡ n % 32)
+counter-wraps n = (omega arith, omega arith)

@@ -11,9 +11,7 @@ use Rattle.laws.proofs.Cases.{and-right}
 use Rattle.machine.specs.Numbers.{specsOf}
 use Rattle.machine.specs.Timing.{delay}
 use Rattle.machine.specs.Contended.{portContended}
-use Rattle.screen.specs.declared.ZXColor.{ZXColor}
 use Rattle.screen.specs.Color.{colorOf}
-use Rattle.screen.proofs.RoundTrips.{number-then-color}
 use Rattle.memory.specs.Paging.{pageContended, write7ffd, pagedCode}
 use Rattle.ports.specs.declared.Devices.{Devices}
 use Rattle.ports.specs.declared.Extender.{Extender}
@@ -31,13 +29,13 @@ use Rattle.rustzx.specs.Panics as run
 use Rattle.rustzx.specs.Panics.{Run, done, Ends}
 use Rattle.rustzx.specs.Machine.{ZXMachine, Sinclair48K, Sinclair128K, contentionClocks, portIsContended}
 use Rattle.rustzx.specs.Memory.{getPage}
-use Rattle.rustzx.specs.Colors.{fromBits}
+use Rattle.rustzx.specs.Colors.{ZXColor, fromBits}
 use Rattle.rustzx.specs.Controller as rust
 use Rattle.rustzx.specs.Controller.{ZXController, pageIsContended, addrIsContended, waitInternal, doContentionAndWait, doContention, contendedFirst, ioContentionFirst, ioContentionLast, setBorderColor, toExtender, toAySelect, toAyWrite, toBorder, toNobody, Reached, Wrote, reaches, waitMreq, readIo, is128K, extenderWrite, writeIo}
-use Rattle.rustzx.specs.Related.{ourMachine, Related}
+use Rattle.rustzx.specs.Related.{ourMachine, extenderGives, attachedOf, Related}
 use Rattle.rustzx.specs.Calls.{reachedCode, pagingCode}
 use Rattle.rustzx.proofs.Timing.{contention-is, port-is}
-use Rattle.rustzx.proofs.Helpers.{from-bits-done, color-byte-is}
+use Rattle.rustzx.proofs.Helpers.{rustColor, from-bits-done, color-back}
 use Rattle.rustzx.proofs.Pages.{contended-is, page-is}
 use Rattle.rustzx.proofs.Steps.{wait-related, colour-related}
 use Rattle.rustzx.proofs.Stores.{paging-related}
@@ -126,7 +124,7 @@ module _ (m : ZXMachine) (rom : List ℕ) where
 
   -- READ_IO: it does not panic, its value is the read's, and it takes the port read's steps.
   pub read-follows : (d : Devices) (port : ℕ) → d .tape < 2 → (c : ZXController) (w : World) → Related m rom c w
-      → Ends (readIo d port c) (λ a. (a .value ≡ readValue (ourMachine m) d port (w .core)) × Related m rom (a .controller) (behind (ourMachine m) (portRead (ourMachine m) port) w))
+      → Ends (readIo (attachedOf d) port c) (λ a. (a .value ≡ readValue (ourMachine m) d port (w .core)) × Related m rom (a .controller) (behind (ourMachine m) (portRead (ourMachine m) port) w))
   unfolding readIo readValue
   read-follows d port h c w r =
       let held′ : ZXController = ioContentionLast port (ioContentionFirst port c) in
@@ -160,9 +158,9 @@ module _ (m : ZXMachine) (rom : List ℕ) where
   border-hears v c w r =
       let h : v % 8 < 8 = omega arith in
       record {
-        value = reaches toBorder (setBorderColor (c .frameClocks) (colorOf (v % 8)) c);
+        value = reaches toBorder (setBorderColor (c .frameClocks) (rustColor (colorOf (v % 8))) c);
         ends = ap (λ (x : Run ZXColor). run.andThen x (λ color. done (reaches toBorder (setBorderColor (c .frameClocks) color c)))) (ap fromBits (and-mask v 3) ∙ from-bits-done (v % 8) h);
-        holds = (refl, colour-related m rom c w (colorOf (v % 8)) (v % 8) (color-byte-is (colorOf (v % 8)) ∙ number-then-color (v % 8) (omega arith) .1) r);
+        holds = (refl, colour-related m rom c w (rustColor (colorOf (v % 8))) (v % 8) (color-back (v % 8) h) r);
       }
 
   -- paging: on a machine that has it, the code is the number that the 7FFD write answers
@@ -195,13 +193,13 @@ module _ (m : ZXMachine) (rom : List ℕ) where
       (unheard toNobody written.Nothing v c w r refl refl)))))
 
   extender-hears : (x : Extender) (port v : ℕ) (c : ZXController) (w : World) → Related m rom c w
-      → Hears (cond (claims x) written.Extender (portOrder (ourMachine m) port)) v w (extenderWrite x port v c)
+      → Hears (cond (claims x) written.Extender (portOrder (ourMachine m) port)) v w (extenderWrite (extenderGives x) port v c)
   extender-hears (extender.Present own) port v c w r = unheard toExtender written.Extender v c w r refl refl
   extender-hears extender.Absent port v c w r = order-hears port v c w r
 
   -- WRITE_IO: it does not panic, acts where the port write acts, and takes its steps; and whom it reached gives the write's code.
   pub write-follows : (d : Devices) (port v : ℕ) (c : ZXController) (w : World) → Related m rom c w
-      → Ends (writeIo d port v c) (λ x. (reachedCode (x .reached) ≡ writeCode (ourMachine m) d port v (w .core)) × Related m rom (x .controller) (behind (ourMachine m) (portWrite (ourMachine m) d port v) w))
+      → Ends (writeIo (attachedOf d) port v c) (λ x. (reachedCode (x .reached) ≡ writeCode (ourMachine m) d port v (w .core)) × Related m rom (x .controller) (behind (ourMachine m) (portWrite (ourMachine m) d port v) w))
   unfolding writeIo writeCode
   write-follows d port v c w r =
       let c₁ : ZXController = ioContentionFirst port c in

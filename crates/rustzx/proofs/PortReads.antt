@@ -5,6 +5,8 @@ use mathlib.Core.Bool.{Bool, true, false, cond, not, _&&_}
 use mathlib.Core.List.{List, []}
 use Prim.Native.Nat.{ℕ, zero, suc, _+_, _-_, _*_, _/_, _%_, _^_, _<_, _≤_}
 use native.Mathlib.Nat.{zero-add}
+use lib.ListN.{getD, take, drop}
+use lib.Seq.{getD-take, getD-drop}
 use lib.Pow.{shr-shr}
 use native.Mathlib.Omega.{arith}
 use lib.Dec.{ltb, leb, eqb}
@@ -37,8 +39,8 @@ use Rattle.rustzx.specs.Machine.{ZXMachine, Sinclair48K, Sinclair128K}
 use Rattle.rustzx.specs.Panics.{Run, done, each}
 use Rattle.rustzx.specs.Memory.{read}
 use Rattle.rustzx.specs.Addresses.{bitmapLineAddr}
-use Rattle.rustzx.specs.Controller.{ZXController, keyboardByte, rowRead, ulaRead, floatingColumn, fetchFloating, floatingBusValue, joystickRead, ayRead, afterMouse, mouseRead, extenderRead}
-use Rattle.rustzx.specs.Related.{ourMachine, SameMemory, Related}
+use Rattle.rustzx.specs.Controller.{ZXController, keyboardByte, rowRead, ulaRead, floatingColumn, fetchFloating, floatingBusValue, kempstonRead, ayRead, afterMouse, mouseRead, extenderRead}
+use Rattle.rustzx.specs.Related.{ourMachine, extenderGives, ayGives, joystickGives, mouseGives, attachedOf, SameMemory, Related}
 use Rattle.rustzx.proofs.Loops.{each-last}
 use Rattle.rustzx.proofs.Timing.{numbers, port-is}
 use Rattle.rustzx.proofs.Helpers.{line-address-is}
@@ -55,13 +57,21 @@ row-kept : (t : Bool) (tmp k : ℕ) → tmp < 256 → cond t (bitAnd tmp k) tmp 
 row-kept true tmp k h = refl
 row-kept false tmp k h = sym (and-byte tmp h)
 
-rows-are : (d : Devices) (port n : ℕ) → each 0 n (rowRead d (port / 256)) 0xFF ≡ rowsAnd (d .rows) port n
+-- the three keyboards are the three sets of rows
+set-is : (at : ℕ) (rows : List ℕ) (n k : ℕ) → n < 8 → n + at ≡ k → getD (take 8 (drop at rows)) n 0 ≡ getD rows k 0
+set-is at rows n k h e = getD-take 8 (drop at rows) n 0 h ∙ getD-drop at rows n 0 ∙ ap (λ (i : ℕ). getD rows i 0) (omega arith)
+
+keyboards-are : (d : Devices) (n : ℕ) → n < 8 → keyboardByte (attachedOf d) n ≡ rowIn (d .rows) n
+keyboards-are d n h =
+    ap₂ bitAnd (ap₂ bitAnd (getD-take 8 (d .rows) n 0 h) (set-is 8 (d .rows) n (n + 8) h refl)) (set-is 16 (d .rows) n (n + 16) h refl)
+
+rows-are : (d : Devices) (port n : ℕ) → n ≤ 8 → each 0 n (rowRead (attachedOf d) (port / 256)) 0xFF ≡ rowsAnd (d .rows) port n
 unfolding each rowsAnd
-rows-are d port zero = refl
-rows-are d port (suc n) =
-    each-last 0 n (rowRead d (port / 256)) 0xFF
-    ∙ ap₂ (λ (k tmp : ℕ). rowRead d (port / 256) k tmp) (zero-add n) (rows-are d port n)
-    ∙ ap (λ (t : Bool). cond t (bitAnd (rowsAnd (d .rows) port n) (keyboardByte d n)) (rowsAnd (d .rows) port n)) (high-bit port n)
+rows-are d port zero h = refl
+rows-are d port (suc n) h =
+    each-last 0 n (rowRead (attachedOf d) (port / 256)) 0xFF
+    ∙ ap₂ (λ (k tmp : ℕ). rowRead (attachedOf d) (port / 256) k tmp) (zero-add n) (rows-are d port n (omega arith))
+    ∙ ap₂ (λ (t : Bool) (k : ℕ). cond t (bitAnd (rowsAnd (d .rows) port n) k) (rowsAnd (d .rows) port n)) (high-bit port n) (keyboards-are d n (omega arith))
     ∙ row-kept (selected port n) (rowsAnd (d .rows) port n) (rowIn (d .rows) n) (rows-byte (d .rows) port n)
 
 tape-is : (t v : ℕ) → t < 2 → cond (not (eqb t 1)) (bitXor v 0x40) v ≡ cond (eqb t 0) (bitXor v 0x40) v
@@ -70,9 +80,9 @@ tape-is (suc zero) v h = refl
 tape-is (suc (suc t)) v h = absurd (omega arith)
 
 -- An even port's byte, with a tape bit of 0 or 1.
-pub keys-are : (d : Devices) (port : ℕ) → d .tape < 2 → ulaRead d port ≡ keysRead (d .rows) (d .tape) port
+pub keys-are : (d : Devices) (port : ℕ) → d .tape < 2 → ulaRead (attachedOf d) port ≡ keysRead (d .rows) (d .tape) port
 unfolding keysRead
-keys-are d port h = rw (rows-are d port 8) (tape-is (d .tape) (rowsAnd (d .rows) port 8) h)
+keys-are d port h = rw (rows-are d port 8 (omega arith)) (tape-is (d .tape) (rowsAnd (d .rows) port 8) h)
 
 -- ---- the floating bus
 -- what the ULA fetches stands at 4000h to 7FFFh, which is RAM on both machines
@@ -153,19 +163,19 @@ module _ (m : ZXMachine) (c : ZXController) (core : Core) (floats : floatingBusV
   pick-answer true u v p q = p
   pick-answer false u v p q = q
 
-  joystick-is : (j : Joystick) (port : ℕ) → joystickRead j port c ≡ done (answered (ourMachine m) (withJoystick j port) core)
+  joystick-is : (j : Joystick) (port : ℕ) → kempstonRead (joystickGives j) port c ≡ done (answered (ourMachine m) (withJoystick j port) core)
   joystick-is joystick.Absent port = floats
   joystick-is (joystick.Present byte) port = pick-answer (joystickPort port) (Value byte) Floating refl floats
 
-  ay-is : (a : Ay) → ayRead a c ≡ done (answered (ourMachine m) (ayByte a) core)
+  ay-is : (a : Ay) → ayRead (ayGives a) c ≡ done (answered (ourMachine m) (ayByte a) core)
   ay-is ay.Absent = floats
   ay-is (ay.Present byte) = refl
 
-  rest-is : (d : Devices) (port : ℕ) → afterMouse d port c ≡ done (answered (ourMachine m) (withAy (d .ay) port (withJoystick (d .joystick) port)) core)
+  rest-is : (d : Devices) (port : ℕ) → afterMouse (attachedOf d) port c ≡ done (answered (ourMachine m) (withAy (d .ay) port (withJoystick (d .joystick) port)) core)
   rest-is d port = pick-answer (classC000 port) (ayByte (d .ay)) (withJoystick (d .joystick) port) (ay-is (d .ay)) (joystick-is (d .joystick) port)
 
   mouse-is : (k : Mouse) (d : Devices) (port : ℕ)
-      → mouseRead k d port c ≡ done (answered (ourMachine m) (withMouse k port (withAy (d .ay) port (withJoystick (d .joystick) port))) core)
+      → mouseRead (mouseGives k) (attachedOf d) port c ≡ done (answered (ourMachine m) (withMouse k port (withAy (d .ay) port (withJoystick (d .joystick) port))) core)
   mouse-is mouse.Absent d port = rest-is d port
   mouse-is (mouse.Present ports) d port =
       let rest = withAy (d .ay) port (withJoystick (d .joystick) port) in
@@ -174,15 +184,15 @@ module _ (m : ZXMachine) (c : ZXController) (core : Core) (floats : floatingBusV
       (pick-answer (yPort port) (Value (ports .y)) rest refl (rest-is d port)))
 
   extender-is : (x : Extender) (d : Devices) (port : ℕ) → d .tape < 2
-      → extenderRead x d port c
+      → extenderRead (extenderGives x) (attachedOf d) port c
       ≡ done (answered (ourMachine m) (withExtender x (cond (evenPort port) (Value (keysRead (d .rows) (d .tape) port)) (withMouse (d .mouse) port (withAy (d .ay) port (withJoystick (d .joystick) port))))) core)
   extender-is (extender.Present byte) d port h = refl
   extender-is extender.Absent d port h =
       let rest = withMouse (d .mouse) port (withAy (d .ay) port (withJoystick (d .joystick) port)) in
-      ap (λ (t : Bool). cond t (done (ulaRead d port)) (mouseRead (d .mouse) d port c)) (port-is m port)
+      ap (λ (t : Bool). cond t (done (ulaRead (attachedOf d) port)) (mouseRead (mouseGives (d .mouse)) (attachedOf d) port c)) (port-is m port)
       ∙ pick-answer (evenPort port) (Value (keysRead (d .rows) (d .tape) port)) rest (ap done (keys-are d port h)) (mouse-is (d .mouse) d port)
 
   -- The read order, whole: who answers, and with which byte.
-  pub order-is : (d : Devices) (port : ℕ) → d .tape < 2 → extenderRead (d .extender) d port c ≡ done (answered (ourMachine m) (readOrder d port) core)
+  pub order-is : (d : Devices) (port : ℕ) → d .tape < 2 → extenderRead (attachedOf d .ioExtender) (attachedOf d) port c ≡ done (answered (ourMachine m) (readOrder d port) core)
   unfolding readOrder
   order-is d port h = extender-is (d .extender) d port h

@@ -16,8 +16,11 @@ use Rattle.machine.specs.Numbers.{specsOf}
 use Rattle.machine.specs.Timing.{blockPosition}
 use Rattle.machine.proofs.Bounds.{blocks-small, position-small}
 use Rattle.offsets.specs.Offset.{offsetOf}
-use Rattle.screen.specs.Color.{bit, attributeOf, activeColor}
-use Rattle.screen.specs.Pixel.{pixelOf, blockOf}
+use Rattle.screen.specs.declared.ZXColor as picture
+use Rattle.screen.specs.declared.ZXAttribute as attribute
+use Rattle.screen.specs.Color as ours
+use Rattle.screen.specs.Color.{bit, attributeOf}
+use Rattle.screen.specs.Pixel.{pixelByte, pixelOf, blockOf}
 use Rattle.screen.specs.Address.{attributeOffset}
 use Rattle.paint.specs.Paint.{blockAt, paint}
 use Rattle.screen.proofs.Attributes.{pixel-of-attribute}
@@ -28,11 +31,12 @@ use Rattle.bus.specs.World.{Core, Screen}
 use Rattle.bus.specs.Time.{Look, flashOn, lookAt, paintFrom, showsA, hiddenPicture, caughtUp, rewound}
 use Rattle.rustzx.specs.Machine.{ZXMachine, Sinclair48K, Sinclair128K}
 use Rattle.rustzx.specs.Panics.{each}
+use Rattle.rustzx.specs.Colors.{activeColor}
 use Rattle.rustzx.specs.Screen.{BlocksCount, fromClocks, passedFrom, ScreenBank, ZXScreen, pixelState, attrOf, activeBankOf, drawPixel, drawBlock, blockIndex, rendered, processClocks, newFrame}
-use Rattle.rustzx.specs.Related.{ourMachine, Mirrors, Mirrored, activeOf, SameScreen}
+use Rattle.rustzx.specs.Related.{ourBrightness, ourAttribute, ourMachine, Mirrors, Mirrored, activeOf, SameScreen}
 use Rattle.rustzx.proofs.Loops.{each-last, each-same}
 use Rattle.rustzx.proofs.Timing.{blocks-are}
-use Rattle.rustzx.proofs.Helpers.{bit-set, pixel-byte-is}
+use Rattle.rustzx.proofs.Helpers.{bit-set, pixel-byte-is, active-is}
 
 -- ---- one pixel
 -- ((bitmap << pixel) & 0x80) != 0 is bit 7 - pixel
@@ -52,7 +56,7 @@ state-is bitmap i h = bit-set 7 (bitmap * 2 ^ i % 256) ∙ ap (λ (x : ℕ). eqb
 
 module _ (bank : ScreenBank) (page : List ℕ) (flash : Bool) (r : Mirrors bank page) where
   module _ (k : ℕ) (h : k < 6144) where
-    attr-is : attrOf bank k ≡ attributeOf (getD page (attributeOffset k) 0)
+    attr-is : ourAttribute (attrOf bank k) ≡ attributeOf (getD page (attributeOffset k) 0)
     attr-is =
         let e : 0x1800 + (k / 256 * 32 + k % 32) ≡ attributeOffset k = omega arith in
         r .attributes (k / 256 * 32 + k % 32) (omega arith) ∙ rw e
@@ -62,9 +66,11 @@ module _ (bank : ScreenBank) (page : List ℕ) (flash : Bool) (r : Mirrors bank 
         → drawPixel bank flash k i q ≡ set q (8 * k + i) (pixelOf (getD page (attributeOffset k) 0) (getD page (offsetOf k) 0) flash i)
     draw-pixel i l q =
         let e : k / 32 * 256 + (k % 32 * 8 + i) ≡ 8 * k + i = omega arith in
-        rw (e, attr-is, r .bitmap k h, state-is (getD page (offsetOf k) 0) i l)
+        rw (e, r .bitmap k h, state-is (getD page (offsetOf k) 0) i l)
         (ap (set q (8 * k + i))
-        (pixel-byte-is (activeColor (attributeOf (getD page (attributeOffset k) 0)) (bit (7 - i) (getD page (offsetOf k) 0)) flash) (attributeOf (getD page (attributeOffset k) 0) .brightness)
+        (pixel-byte-is (activeColor (attrOf bank k) (bit (7 - i) (getD page (offsetOf k) 0)) flash) (attrOf bank k .brightness)
+        ∙ ap (λ (c : picture.ZXColor). pixelByte c (ourBrightness (attrOf bank k .brightness))) (active-is (attrOf bank k) (bit (7 - i) (getD page (offsetOf k) 0)) flash)
+        ∙ ap (λ (a : attribute.ZXAttribute). pixelByte (ours.activeColor a (bit (7 - i) (getD page (offsetOf k) 0)) flash) (a .brightness)) attr-is
         ∙ sym (pixel-of-attribute (getD page (attributeOffset k) 0) (getD page (offsetOf k) 0) flash i)))
 
     -- and a block is its eight pixels

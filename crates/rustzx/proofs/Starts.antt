@@ -19,7 +19,7 @@ use Rattle.rustzx.specs.Screen as screen
 use Rattle.rustzx.specs.Screen.{blackAttribute, newBank}
 use Rattle.rustzx.specs.Border as border
 use Rattle.rustzx.specs.Controller.{paged, firstBank, new, withRom}
-use Rattle.rustzx.specs.Related.{ourMachine, ourPage, Mirrors, Mirrored, activeOf, SameBorder, pagingOpen, Related}
+use Rattle.rustzx.specs.Related.{ourMachine, ourPage, ourAttribute, Mirrors, Mirrored, activeOf, SameBorder, pagingOpen, Related}
 use Rattle.rustzx.proofs.Steps.{sound-in-step}
 
 zeros-clear : (m : ZXMachine) (n : ℕ) → n ≡ specsOf (ourMachine m) .ram → zeros n ≡ clearRam (ourMachine m)
@@ -49,7 +49,7 @@ blank-bank n k page p q f =
       bitmapLong = length-replicate k 0 ∙ q;
       attributesLong = length-replicate n blackAttribute ∙ p;
       bitmap = λ i h. getD-replicate k i 0 0 (omega arith) ∙ sym (f (offsetOf i) (offset-small i h));
-      attributes = λ j h. getD-replicate n j blackAttribute blackAttribute (omega arith) ∙ ap attributeOf (sym (f (0x1800 + j) (omega arith)));
+      attributes = λ j h. ap ourAttribute (getD-replicate n j blackAttribute blackAttribute (omega arith)) ∙ ap attributeOf (sym (f (0x1800 + j) (omega arith)));
     }
 
 new-mirrors : (m : ZXMachine) (p : ℕ) → 16384 * p + 16384 ≤ specsOf (ourMachine m) .ram → Mirrors newBank (ramPage p (clearRam (ourMachine m)))

@@ -14,7 +14,6 @@ use Rattle.machine.specs.Numbers.{specsOf}
 use Rattle.machine.specs.Timing.{borderAt, isFrameEnd, frameEnd}
 use Rattle.machine.proofs.Numbered.{regular}
 use Rattle.machine.proofs.Rising.{blocks-mono, end-is}
-use Rattle.screen.specs.declared.ZXColor.{ZXColor}
 use Rattle.border.specs.Edge.{Edge, finished, inked, inkedAt}
 use Rattle.bus.specs.World.{World}
 use Rattle.bus.specs.Time.{tick, colour, unpass, closes, lookAt, showsA, caughtUp, inCore, inScreen, inEdge, wentOn, wrapped, does}
@@ -22,7 +21,7 @@ use Rattle.bus.proofs.OneStep.{core-closed, core-goes, screen-closed, screen-go
 use Rattle.bus.proofs.Kept.{SoundWorld}
 use Rattle.machine.specs.declared.ZXMachine as ours
 use Rattle.rustzx.specs.Machine.{ZXMachine, specs}
-use Rattle.rustzx.specs.Colors.{colorByte}
+use Rattle.rustzx.specs.Colors.{ZXColor, colorByte}
 use Rattle.rustzx.specs.Screen.{processClocks}
 use Rattle.rustzx.specs.Border.{setBorder}
 use Rattle.rustzx.specs.Controller.{ZXController, newFrame, processed, waitInternal, setBorderColor, resetFrameCounter}

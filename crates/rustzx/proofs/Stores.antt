@@ -24,9 +24,9 @@ use Rattle.bus.specs.World.{Core, Screen, World}
 use Rattle.bus.specs.Time.{paged, poke, load, inCore, inScreen, inEdge, does, worldAfter}
 use Rattle.bus.specs.Calls.{repaged, pagingWrite}
 use Rattle.rustzx.specs.Machine.{ZXMachine, Sinclair48K, Sinclair128K}
-use Rattle.rustzx.specs.Panics.{Run, done, andThen, each, Ends}
+use Rattle.rustzx.specs.Panics.{Run, done, Option, some, none, andThen, each, Ends}
 use Rattle.rustzx.specs.Memory.{Page, Rom, Ram, ZXMemory, getPage, write, loadPage}
-use Rattle.rustzx.specs.Screen.{ScreenBank, ZXScreen, LocalBank, some, none, localBank, withActive, switchTo, switchBank, withBank, updateIn, update}
+use Rattle.rustzx.specs.Screen.{ScreenBank, ZXScreen, localBank, withActive, switchTo, switchBank, withBank, updateIn, update}
 use Rattle.rustzx.specs.Controller.{ZXController, withMemory, withPaging, toPaging, Wrote, reaches, newScreenBank, remapped, stillEnabled, write7ffd, updated, writeInternal, refreshByte, refreshPage, refreshed, loadAndRefresh}
 use Rattle.rustzx.specs.Related.{ourMachine, ourPage, Mirrors, Mirrored, activeOf, SameScreen, SameMemory, Related}
 use Rattle.bus.specs.Pokes.{poking, byteWrite}
@@ -140,11 +140,11 @@ page-long : (p : ℕ) (ram : List ℕ) → 16384 * p + 16384 ≤ length ram → 
 page-long p ram h = length-take-le 16384 (drop (16384 * p) ram) (rw (length-drop (16384 * p) ram) (omega arith))
 
 -- what an update does to a screen
-abbrev bankPut : LocalBank → ℕ → ℕ → ZXScreen → ZXScreen
+abbrev bankPut : Option ℕ → ℕ → ℕ → ZXScreen → ZXScreen
 bankPut (some b) rel v s = withBank b (put rel v) s
 bankPut none rel v s = s
 
-update-any : (l : LocalBank) (rel v : ℕ) (s : ZXScreen) → updateIn l rel v s ≡ done (bankPut l rel v s)
+update-any : (l : Option ℕ) (rel v : ℕ) (s : ZXScreen) → updateIn l rel v s ≡ done (bankPut l rel v s)
 update-any (some b) rel v s = update-is b rel v s
 update-any none rel v s = refl
 
@@ -160,18 +160,18 @@ mirrored-put : (m : ZXMachine) (p rel v : ℕ) (s : ZXScreen) (ram : List ℕ) �
     → Mirrored m (s .bank0) (s .bank1) ram
     → Mirrored m (bankPut (localBank m p) rel v s .bank0) (bankPut (localBank m p) rel v s .bank1) (set ram (16384 * p + rel) v)
 mirrored-put Sinclair48K p rel v s ram h f r =
-    by-eq (λ (l : LocalBank). Mirrors (bankPut l rel v s .bank0) (ramPage 0 (set ram (16384 * p + rel) v))) p 0
+    by-eq (λ (l : Option ℕ). Mirrors (bankPut l rel v s .bank0) (ramPage 0 (set ram (16384 * p + rel) v))) p 0
     (λ e. subst (λ (q : ℕ). Mirrors (put rel v (s .bank0)) (ramPage q (set ram (16384 * p + rel) v))) e
     (own-page p rel v s ram h (s .bank0) f (subst (λ (q : ℕ). Mirrors (s .bank0) (ramPage q ram)) (sym e) r)))
     (λ e. other-page p rel v s ram h 0 (s .bank0) e r)
 mirrored-put Sinclair128K p rel v s ram h f r =
-    by-eq (λ (l : LocalBank). Mirrored Sinclair128K (bankPut l rel v s .bank0) (bankPut l rel v s .bank1) (set ram (16384 * p + rel) v)) p 5
+    by-eq (λ (l : Option ℕ). Mirrored Sinclair128K (bankPut l rel v s .bank0) (bankPut l rel v s .bank1) (set ram (16384 * p + rel) v)) p 5
     (λ e. (
       subst (λ (q : ℕ). Mirrors (put rel v (s .bank0)) (ramPage q (set ram (16384 * p + rel) v))) e
           (own-page p rel v s ram h (s .bank0) f (subst (λ (q : ℕ). Mirrors (s .bank0) (ramPage q ram)) (sym e) (r .0))),
       other-page p rel v s ram h 7 (s .bank1) (λ g. omega arith) (r .1),
     ))
-    (λ e. by-eq (λ (l : LocalBank). Mirrored Sinclair128K (bankPut l rel v s .bank0) (bankPut l rel v s .bank1) (set ram (16384 * p + rel) v)) p 7
+    (λ e. by-eq (λ (l : Option ℕ). Mirrored Sinclair128K (bankPut l rel v s .bank0) (bankPut l rel v s .bank1) (set ram (16384 * p + rel) v)) p 7
     (λ g. (
       other-page p rel v s ram h 5 (s .bank0) e (r .0),
       subst (λ (q : ℕ). Mirrors (put rel v (s .bank1)) (ramPage q (set ram (16384 * p + rel) v))) g
@@ -180,7 +180,7 @@ mirrored-put Sinclair128K p rel v s ram h f r =
     (λ g. (other-page p rel v s ram h 5 (s .bank0) e (r .0), other-page p rel v s ram h 7 (s .bank1) g (r .1))))
 
 -- nothing else of the screen is touched
-put-screen : (m : ZXMachine) (l : LocalBank) (rel v : ℕ) (s : ZXScreen) (c c′ : Core) (w : Screen) → SameScreen m s c w
+put-screen : (m : ZXMachine) (l : Option ℕ) (rel v : ℕ) (s : ZXScreen) (c c′ : Core) (w : Screen) → SameScreen m s c w
     → c′ .phase ≡ c .phase → c′ .paging ≡ c .paging
     → Mirrored m (bankPut l rel v s .bank0) (bankPut l rel v s .bank1) (c′ .ram) → SameScreen m (bankPut l rel v s) c′ w
 put-screen m (some b) rel v s c c′ w r p q mi = banks-screen m _ _ s c c′ w r p q mi
@@ -290,7 +290,7 @@ module _ (m : ZXMachine) (bank b : ℕ) (bytes : List ℕ) (s : ZXScreen) (local
       each-last 0 n (refreshByte m bank bytes) (done s)
       ∙ ap (refreshByte m bank bytes (0 + n)) (refresh-loop n)
       ∙ rw (zero-add n)
-      (ap (λ (l : LocalBank). updateIn l n (getD bytes n 0) (withBank b (putAll bytes n) s)) local
+      (ap (λ (l : Option ℕ). updateIn l n (getD bytes n 0) (withBank b (putAll bytes n) s)) local
       ∙ update-is b n (getD bytes n 0) (withBank b (putAll bytes n) s)
       ∙ ap done (bank-twice b (put n (getD bytes n 0)) (putAll bytes n) s
       ∙ bank-same b (λ x. put n (getD bytes n 0) (putAll bytes n x)) (putAll bytes (suc n)) s (put-last bytes n (s .bank0)) (put-last bytes n (s .bank1))))

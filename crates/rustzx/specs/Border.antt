@@ -5,11 +5,9 @@ use mathlib.Core.Bool.{Bool, true, false, cond, not}
 use mathlib.Core.List.{List}
 use lib.Dec.{ltb, leb}
 use lib.ListN.{set, replicate}
-use Rattle.screen.specs.declared.ZXColor.{ZXColor}
-use Rattle.screen.specs.declared.ZXColor.the-variants.{White}
 use Rattle.rustzx.specs.Panics.{each}
 use Rattle.rustzx.specs.Machine.{ZXSpecs, ZXMachine, specs}
-use Rattle.rustzx.specs.Colors.{colorByte}
+use Rattle.rustzx.specs.Colors.{ZXColor, White, colorByte}
 
 abbrev pub screenWidth : ℕ
 screenWidth = 320

@@ -21,6 +21,7 @@ use Rattle.rustzx.specs.Panics.{Run, done, andThen}
 use Rattle.rustzx.specs.Machine.{ZXMachine, specs}
 use Rattle.rustzx.specs.Memory.{ramPageData, blockData}
 use Rattle.rustzx.specs.Screen.{blockIndex}
+use Rattle.rustzx.specs.Related.{attachedOf}
 use Rattle.rustzx.specs.Controller as rust
 use Rattle.rustzx.specs.Controller.{ZXController, Reached, Wrote}
 use Rattle.bus.specs.Pokes.{byteWrite, pageLoad, passedReset}
@@ -81,13 +82,13 @@ unfoldable pub performed : Call → ZXController → Run Given
 performed (waitInternal n) c = done (gives (rust.waitInternal n c) [])
 performed (waitMreq addr n) c = done (gives (rust.waitMreq addr n c) [])
 performed (waitNoMreq addr n) c = done (gives (rust.waitNoMreq addr n c) [])
-performed (readIo d port) c = andThen (rust.readIo d port c) (λ a. done (gives (a .controller) (a .value ∷ [])))
-performed (writeIo d port value) c = wrote reachedCode (rust.writeIo d port value c)
+performed (readIo d port) c = andThen (rust.readIo (attachedOf d) port c) (λ a. done (gives (a .controller) (a .value ∷ [])))
+performed (writeIo d port value) c = wrote reachedCode (rust.writeIo (attachedOf d) port value c)
 performed (readInternal addr) c = done (gives c (rust.readInternal addr c ∷ []))
 performed (writeInternal addr value) c = acted (rust.writeInternal addr value c)
 performed (write7ffd value) c = wrote (pagingCode (c .machine)) (rust.write7ffd value c)
 performed read7ffd c = done (gives c (c .currentPort7ffd ∷ []))
-performed intActive c = done (gives c (flagByte (rust.intActive c) ∷ []))
+performed intActive c = done (gives c (cond (rust.intActive c) 1 0 ∷ []))
 performed framesCount c = done (gives c (c .passedFrames ∷ []))
 performed resetFrameCounter c = done (gives (rust.resetFrameCounter c) [])
 performed (loadPage page bytes) c = acted (rust.loadAndRefresh page bytes c)

@@ -27,7 +27,7 @@ use Rattle.rustzx.specs.Addresses as rust
 use Rattle.rustzx.specs.Colors.{fromBits, colorByte}
 use Rattle.rustzx.specs.Controller.{ZXController}
 use Rattle.rustzx.specs.Related.{Related}
-use Rattle.rustzx.proofs.Helpers.{asRun, line-address-is, line-rel-is, col-rel-is, attr-row-is, attr-col-is, coloredRun, from-bits-is, color-byte-is}
+use Rattle.rustzx.proofs.Helpers.{asRun, line-address-is, line-rel-is, col-rel-is, attr-row-is, attr-col-is, coloredRun, from-bits-is, color-number}
 use Rattle.rustzx.proofs.EveryState.{rustOf, every-machine, every-state}
 use Rattle.surface.specs.Same.{SameLent, SameHelp}
 
@@ -53,7 +53,7 @@ module _ (n : ℕ) (answer : List ℕ) (long : length answer ≡ 5) where
   attr-col-same = rw (attr-col-is n) (helped-same (attributeColumn n) answer long)
 
   by-colored : (c : Colored) → andThen (coloredRun c) (λ x. done (colorByte x)) ≡ asRun (colorHelped c)
-  by-colored (colored.Color c) = ap done (color-byte-is c)
+  by-colored (colored.Color c) = ap done (color-number c)
   by-colored colored.OutOfRange = refl
 
   -- from_bits, its colour by its number
