@@ -12,21 +12,25 @@ use lib.Seq.{getD-set-same, getD-set-other}
 use borrow.Author.Tests.{le-leb, lt-leb, ne-eqb}
 use Rattle.laws.proofs.Cases.{by-bool, by-le, by-eq, split}
 use Rattle.offsets.specs.Offset.{lineStart, offsetOf}
-use Rattle.screen.specs.declared.ZXAttribute.{ZXAttribute}
 use Rattle.screen.specs.Address.{lineOf}
 use Rattle.screen.specs.Color.{attributeOf}
 use Rattle.screen.proofs.RoundTrips.{line-back, offset-back}
-use Rattle.rustzx.specs.Panics.{done, each}
-use Rattle.rustzx.specs.Screen.{ScreenBank, ZXScreen, blackAttribute, some, withBank, putBitmap, putAttribute, updateBitmap, updateAttribute, updateIn}
-use Rattle.rustzx.specs.Related.{Mirrors}
+use Rattle.rustzx.specs.Panics.{done, some, each}
+use Rattle.rustzx.specs.Colors.{ZXAttribute}
+use Rattle.rustzx.specs.Screen.{ScreenBank, ZXScreen, blackAttribute, withBank, putBitmap, putAttribute, updateBitmap, updateAttribute, updateIn}
+use Rattle.rustzx.specs.Related.{ourAttribute, Mirrors}
 use Rattle.rustzx.proofs.Loops.{each-keeps}
-use Rattle.rustzx.proofs.Helpers.{line-rel-is, col-rel-is, attr-row-is, attr-col-is, from-byte-is}
+use Rattle.rustzx.proofs.Helpers.{line-rel-is, col-rel-is, attr-row-is, attr-col-is, rustAttribute, attribute-there, from-byte-is}
+
+-- the attribute that from_byte gives
+abbrev cellOf : ℕ → ZXAttribute
+cellOf v = rustAttribute (attributeOf v)
 
 -- what an update does to a bank: the bitmap byte of an offset, its attribute, or nothing
 unfoldable pub put : ℕ → ℕ → ScreenBank → ScreenBank
 put rel v b =
     cond (leb rel 0x17FF) (putBitmap (lineOf rel * 32 + rel % 32) v b)
-    (cond (leb rel 0x1AFF) (putAttribute ((rel - 0x1800) / 32 * 32 + (rel - 0x1800) % 32) (attributeOf v) b) b)
+    (cond (leb rel 0x1AFF) (putAttribute ((rel - 0x1800) / 32 * 32 + (rel - 0x1800) % 32) (cellOf v) b) b)
 
 -- ---- update is `put` on the bank, and never panics
 bitmap-done : (bank rel v : ℕ) (s : ZXScreen) → rel ≤ 0x17FF → updateBitmap bank rel v s ≡ done (withBank bank (putBitmap (lineOf rel * 32 + rel % 32) v) s)
@@ -35,7 +39,7 @@ bitmap-done bank rel v s h =
     rw (line-rel-is rel, col-rel-is rel, l)
 
 attribute-done : (bank rel v : ℕ) (s : ZXScreen) → 0x1800 ≤ rel → rel ≤ 0x1AFF
-    → updateAttribute bank rel v s ≡ done (withBank bank (putAttribute ((rel - 0x1800) / 32 * 32 + (rel - 0x1800) % 32) (attributeOf v)) s)
+    → updateAttribute bank rel v s ≡ done (withBank bank (putAttribute ((rel - 0x1800) / 32 * 32 + (rel - 0x1800) % 32) (cellOf v)) s)
 attribute-done bank rel v s h k =
     let l = le-leb 0x1800 rel h in
     let u = le-leb rel 0x1AFF k in
@@ -96,7 +100,7 @@ module _ (rel v : ℕ) (b : ScreenBank) where
   unfolding put
   put-attributes-long =
       by-bool (λ (x : ScreenBank). length (x .attributes) ≡ length (b .attributes)) (leb rel 0x17FF) (λ e. refl)
-      (λ e. by-bool (λ (x : ScreenBank). length (x .attributes) ≡ length (b .attributes)) (leb rel 0x1AFF) (λ f. length-set (b .attributes) _ (attributeOf v)) (λ f. refl))
+      (λ e. by-bool (λ (x : ScreenBank). length (x .attributes) ≡ length (b .attributes)) (leb rel 0x1AFF) (λ f. length-set (b .attributes) _ (cellOf v)) (λ f. refl))
 
   -- an update changes the bitmap byte of its offset, and no other
   put-bitmap : length (b .bitmap) ≡ 6144 → (k : ℕ) → k < 6144
@@ -114,16 +118,16 @@ module _ (rel v : ℕ) (b : ScreenBank) where
 
   -- and the attribute of its offset, and no other
   put-attribute : length (b .attributes) ≡ 768 → (j : ℕ) → j < 768
-      → getD (put rel v b .attributes) j blackAttribute ≡ cond (eqb (0x1800 + j) rel) (attributeOf v) (getD (b .attributes) j blackAttribute)
+      → getD (put rel v b .attributes) j blackAttribute ≡ cond (eqb (0x1800 + j) rel) (cellOf v) (getD (b .attributes) j blackAttribute)
   unfolding put
   put-attribute long j h =
-      by-le (λ (x : ScreenBank). getD (x .attributes) j blackAttribute ≡ cond (eqb (0x1800 + j) rel) (attributeOf v) (getD (b .attributes) j blackAttribute)) rel 0x17FF
+      by-le (λ (x : ScreenBank). getD (x .attributes) j blackAttribute ≡ cond (eqb (0x1800 + j) rel) (cellOf v) (getD (b .attributes) j blackAttribute)) rel 0x17FF
       (λ l. let n = ne-eqb (0x1800 + j) rel (λ e. omega arith) in rw n)
-      (λ l. by-le (λ (x : ScreenBank). getD (x .attributes) j blackAttribute ≡ cond (eqb (0x1800 + j) rel) (attributeOf v) (getD (b .attributes) j blackAttribute)) rel 0x1AFF
-      (λ u. by-eq (λ (a : ZXAttribute). getD (set (b .attributes) ((rel - 0x1800) / 32 * 32 + (rel - 0x1800) % 32) (attributeOf v)) j blackAttribute ≡ a) (0x1800 + j) rel
+      (λ l. by-le (λ (x : ScreenBank). getD (x .attributes) j blackAttribute ≡ cond (eqb (0x1800 + j) rel) (cellOf v) (getD (b .attributes) j blackAttribute)) rel 0x1AFF
+      (λ u. by-eq (λ (a : ZXAttribute). getD (set (b .attributes) ((rel - 0x1800) / 32 * 32 + (rel - 0x1800) % 32) (cellOf v)) j blackAttribute ≡ a) (0x1800 + j) rel
       (λ e. let i : (rel - 0x1800) / 32 * 32 + (rel - 0x1800) % 32 ≡ j = omega arith in
-      rw i (getD-set-same (b .attributes) j (attributeOf v) blackAttribute (omega arith)))
-      (λ e. getD-set-other (b .attributes) ((rel - 0x1800) / 32 * 32 + (rel - 0x1800) % 32) j (attributeOf v) blackAttribute (λ i. e (omega arith))))
+      rw i (getD-set-same (b .attributes) j (cellOf v) blackAttribute (omega arith)))
+      (λ e. getD-set-other (b .attributes) ((rel - 0x1800) / 32 * 32 + (rel - 0x1800) % 32) j (cellOf v) blackAttribute (λ i. e (omega arith))))
       (λ u. let n = ne-eqb (0x1800 + j) rel (λ e. omega arith) in rw n))
 
 -- a byte stored in a page
@@ -132,9 +136,10 @@ stored page rel v j h =
     by-eq (λ (n : ℕ). getD (set page rel v) j 0 ≡ n) j rel
     (λ e. rw e (getD-set-same page rel v 0 h)) (λ e. getD-set-other page rel j v 0 e)
 
-through : (t : Bool) (x y : ℕ) → cond t (attributeOf x) (attributeOf y) ≡ attributeOf (cond t x y)
-through true x y = refl
-through false x y = refl
+-- a cell stored, as ours
+through : (t : Bool) (v y : ℕ) (a : ZXAttribute) → ourAttribute a ≡ attributeOf y → ourAttribute (cond t (cellOf v) a) ≡ attributeOf (cond t v y)
+through true v y a e = attribute-there (attributeOf v)
+through false v y a e = e
 
 -- ONE BYTE: a bank that mirrors a page mirrors it still when the byte is stored in both.
 pub put-mirrors : (rel v : ℕ) (b : ScreenBank) (page : List ℕ) → rel < length page → Mirrors b page → Mirrors (put rel v b) (set page rel v)
@@ -147,9 +152,8 @@ put-mirrors rel v b page h r =
           ∙ ap (λ (n : ℕ). cond (eqb (offsetOf k) rel) v n) (r .bitmap k l)
           ∙ sym (stored page rel v (offsetOf k) h);
       attributes = λ j l.
-          put-attribute rel v b (r .attributesLong) j l
-          ∙ ap (λ (a : ZXAttribute). cond (eqb (0x1800 + j) rel) (attributeOf v) a) (r .attributes j l)
-          ∙ through (eqb (0x1800 + j) rel) v (getD page (0x1800 + j) 0)
+          ap ourAttribute (put-attribute rel v b (r .attributesLong) j l)
+          ∙ through (eqb (0x1800 + j) rel) v (getD page (0x1800 + j) 0) (getD (b .attributes) j blackAttribute) (r .attributes j l)
           ∙ ap attributeOf (sym (stored page rel v (0x1800 + j) h));
     }
 
@@ -159,7 +163,7 @@ record Upto (page : List ℕ) (n : ℕ) (b : ScreenBank) : Type 0 where
   bitmapLong : length (b .bitmap) ≡ 6144
   attributesLong : length (b .attributes) ≡ 768
   bitmap : (k : ℕ) → k < 6144 → offsetOf k < n → getD (b .bitmap) k 0 ≡ getD page (offsetOf k) 0
-  attributes : (j : ℕ) → j < 768 → 0x1800 + j < n → getD (b .attributes) j blackAttribute ≡ attributeOf (getD page (0x1800 + j) 0)
+  attributes : (j : ℕ) → j < 768 → 0x1800 + j < n → ourAttribute (getD (b .attributes) j blackAttribute) ≡ attributeOf (getD page (0x1800 + j) 0)
 
 one-more : (page : List ℕ) (n : ℕ) (b : ScreenBank) → Upto page n b → Upto page (suc n) (put n (getD page n 0) b)
 one-more page n b r =
@@ -170,9 +174,9 @@ one-more page n b r =
           put-bitmap n (getD page n 0) b (r .bitmapLong) k l
           ∙ by-eq (λ (x : ℕ). x ≡ getD page (offsetOf k) 0) (offsetOf k) n (λ e. ap (λ (i : ℕ). getD page i 0) (sym e)) (λ e. r .bitmap k l (omega arith));
       attributes = λ j l u.
-          put-attribute n (getD page n 0) b (r .attributesLong) j l
-          ∙ by-eq (λ (x : ZXAttribute). x ≡ attributeOf (getD page (0x1800 + j) 0)) (0x1800 + j) n
-          (λ e. ap (λ (i : ℕ). attributeOf (getD page i 0)) (sym e)) (λ e. r .attributes j l (omega arith));
+          ap ourAttribute (put-attribute n (getD page n 0) b (r .attributesLong) j l)
+          ∙ by-eq (λ (x : ZXAttribute). ourAttribute x ≡ attributeOf (getD page (0x1800 + j) 0)) (0x1800 + j) n
+          (λ e. attribute-there (attributeOf (getD page n 0)) ∙ ap (λ (i : ℕ). attributeOf (getD page i 0)) (sym e)) (λ e. r .attributes j l (omega arith));
     }
 
 -- every byte of a page put into a bank, one after the other

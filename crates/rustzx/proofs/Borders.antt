@@ -8,19 +8,18 @@ use native.Mathlib.Omega.{arith}
 use lib.ListN.{set, replicate}
 use lib.Seq.{sets}
 use Rattle.laws.proofs.Cases.{by-bool}
-use Rattle.machine.specs.declared.ZXMachine.{ZXMachine}
 use Rattle.machine.specs.declared.BorderPlace.{BorderPlace}
 use Rattle.machine.specs.declared.BorderPlace.the-variants.{At, FrameEnd}
 use Rattle.machine.specs.Numbers.{specsOf}
 use Rattle.machine.specs.Timing.{borderAt, isFrameEnd}
 use Rattle.machine.proofs.Bounds.{Within, border-within}
-use Rattle.screen.specs.declared.ZXColor.{ZXColor}
 use Rattle.border.specs.Edge.{Edge, filled, inked, inkedAt, finished}
 use Rattle.border.proofs.Fills.{filled-none}
+use Rattle.rustzx.specs.Machine.{ZXMachine}
 use Rattle.rustzx.specs.Panics.{each}
-use Rattle.rustzx.specs.Colors.{colorByte}
+use Rattle.rustzx.specs.Colors.{ZXColor, colorByte}
 use Rattle.rustzx.specs.Border.{BeamInfo, ZXBorder, screenWidth, pixelIndex, fillTo, reset, whole, newFrame, setAt, setBorder}
-use Rattle.rustzx.specs.Related.{SameBorder}
+use Rattle.rustzx.specs.Related.{ourMachine, SameBorder}
 use Rattle.rustzx.proofs.Timing.{nextOf, border-is}
 
 -- ---- a fill
@@ -162,9 +161,9 @@ module _ (color : ZXColor) (k : ℕ) (b : ZXBorder) (e : Edge) (r : SameBorder b
 
 -- set_border is a border write: at every clock, on a beam that is blocked only at frame end and with pairs 0.
 pub set-border-is : (m : ZXMachine) (clock k : ℕ) (color : ZXColor) (b : ZXBorder) (e : Edge) → SameBorder b e → colorByte color ≡ k
-    → (e .blocked ≡ true → isFrameEnd (borderAt (specsOf m) clock) ≡ true) → (e .blocked ≡ true → e .pairs ≡ 0)
-    → SameBorder (setBorder m clock color b) (inked (borderAt (specsOf m) clock) k e)
+    → (e .blocked ≡ true → isFrameEnd (borderAt (specsOf (ourMachine m)) clock) ≡ true) → (e .blocked ≡ true → e .pairs ≡ 0)
+    → SameBorder (setBorder m clock color b) (inked (borderAt (specsOf (ourMachine m)) clock) k e)
 unfolding setBorder
 set-border-is m clock k color b e r ink end none =
     rw (border-is m clock)
-    (by-block color k b e r ink (borderAt (specsOf m) clock) (border-within (specsOf m) clock) end none)
+    (by-block color k b e r ink (borderAt (specsOf (ourMachine m)) clock) (border-within (specsOf (ourMachine m)) clock) end none)

@@ -3,27 +3,27 @@
 -- Assumes nothing.
 use mathlib.Core.Path.{_≡_, refl, sym, _∙_}
 use mathlib.Core.Bool.{true, false≢true}
-use mathlib.Core.List.{List}
+use mathlib.Core.List.{List, [], _∷_, map}
 use Prim.Native.Nat.{ℕ, _*_, _/_, _%_, _<_}
 use native.Mathlib.Nat.{mod-eq-of-lt}
 use native.Mathlib.Omega.{arith}
 use lib.ListN.{length, replicate, length-replicate}
-use Rattle.machine.specs.declared.ZXMachine.{ZXMachine}
-use Rattle.machine.specs.declared.ZXMachine.the-variants.{Sinclair48K, Sinclair128K}
+use Rattle.machine.specs.declared.ZXMachine as ours
+use Rattle.machine.specs.declared.ZXMachine.the-variants as our
 use Rattle.machine.specs.Numbers.{specsOf}
 use Rattle.screen.specs.Color.{colorOf}
-use Rattle.screen.proofs.RoundTrips.{number-then-color}
-use Rattle.memory.specs.Paging.{shownPage}
+use Rattle.memory.specs.Paging.{bit, memoryMap, shownPage}
 use Rattle.memory.specs.Memory.{ramPage}
 use Rattle.bus.specs.World.{World}
 use Rattle.bus.specs.Time.{flashOn, shownPicture, hiddenPicture}
 use Rattle.bus.proofs.Kept.{SoundWorld}
-use Rattle.rustzx.specs.Colors.{colorByte}
+use Rattle.rustzx.specs.Machine.{ZXMachine, Sinclair48K, Sinclair128K}
+use Rattle.rustzx.specs.Memory.{Page, Rom, Ram}
 use Rattle.rustzx.specs.Screen.{ZXScreen, blackAttribute, newBank}
 use Rattle.rustzx.specs.Border.{ZXBorder}
 use Rattle.rustzx.specs.Controller.{ZXController}
-use Rattle.rustzx.specs.Related.{Mirrors, Mirrored, activeOf, memoryOf, pagingOpen, Related}
-use Rattle.rustzx.proofs.Helpers.{color-byte-is}
+use Rattle.rustzx.specs.Related.{ourMachine, ourPage, Mirrors, Mirrored, activeOf, pagingOpen, Related}
+use Rattle.rustzx.proofs.Helpers.{rustColor, color-back}
 use Rattle.rustzx.proofs.Banks.{putAll, all-mirrors}
 use Rattle.rustzx.proofs.Steps.{sound-in-step}
 
@@ -49,24 +49,33 @@ abbrev pub borderOf : World → ZXBorder
 borderOf w =
     record {
       buffer = w .edge .pixels;
-      beamLast = record { line = 2 * w .edge .pairs / 320; pixel = 2 * w .edge .pairs % 320; color = colorOf (w .edge .colour) };
+      beamLast = record { line = 2 * w .edge .pairs / 320; pixel = 2 * w .edge .pairs % 320; color = rustColor (colorOf (w .edge .colour)) };
       borderChanged = true;
       beamBlock = w .edge .blocked;
     }
+
+-- the map of a machine with a 7FFD byte
+abbrev mapOf : ZXMachine → ℕ → List Page
+mapOf Sinclair48K paging = Rom 0 ∷ Ram 0 ∷ Ram 1 ∷ Ram 2 ∷ []
+mapOf Sinclair128K paging = Rom (bit 4 paging) ∷ Ram 5 ∷ Ram 2 ∷ Ram (paging % 8) ∷ []
+
+map-is : (m : ZXMachine) (paging : ℕ) → map ourPage (mapOf m paging) ≡ memoryMap (ourMachine m) paging
+map-is Sinclair48K paging = refl
+map-is Sinclair128K paging = refl
 
 -- a state of the Rust for a machine, a ROM and a world
 abbrev pub rustOf : ZXMachine → List ℕ → World → ZXController
 rustOf m rom w =
     record {
       machine = m;
-      memory = memoryOf m rom (w .core);
+      memory = record { rom = rom; ram = w .core .ram; map = mapOf m (w .core .paging) };
       screen = screenOf m w;
       border = borderOf w;
-      borderColor = colorOf (w .core .reported);
+      borderColor = rustColor (colorOf (w .core .reported));
       frameClocks = w .core .clock;
       passedFrames = w .core .passed;
       pagingEnabled = pagingOpen m (w .core .paging);
-      screenBank = shownPage m (w .core .paging);
+      screenBank = shownPage (ourMachine m) (w .core .paging);
       currentPort7ffd = w .core .paging;
     }
 
@@ -84,16 +93,18 @@ banks : (m : ZXMachine) (w : World) → Mirrored m (screenOf m w .bank0) (screen
 banks Sinclair48K w = filled (ramPage 0 (w .core .ram))
 banks Sinclair128K w = (filled (ramPage 5 (w .core .ram)), filled (ramPage 7 (w .core .ram)))
 
-color-back : (n : ℕ) → n < 8 → colorByte (colorOf n) ≡ n
-color-back n h = color-byte-is (colorOf n) ∙ number-then-color n (omega arith) .1
+-- Our machines are the Rust's two. This is the one statement that a further machine of ours, of which the Rust has no state, would end.
+pub every-machine : (m : ours.ZXMachine) → (z : ZXMachine) × (ourMachine z ≡ m)
+every-machine our.Sinclair48K = (Sinclair48K, refl)
+every-machine our.Sinclair128K = (Sinclair128K, refl)
 
 -- EVERY SOUND WORLD IS THAT OF A STATE OF THE RUST.
-pub every-state : (m : ZXMachine) (rom : List ℕ) (w : World) → SoundWorld m w → length (w .core .ram) ≡ specsOf m .ram → length rom ≡ specsOf m .rom
+pub every-state : (m : ZXMachine) (rom : List ℕ) (w : World) → SoundWorld (ourMachine m) w → length (w .core .ram) ≡ specsOf (ourMachine m) .ram → length rom ≡ specsOf (ourMachine m) .rom
     → Related m rom (rustOf m rom w) w
 every-state m rom w s ram-long rom-long =
     record {
       machine = refl;
-      memory = refl;
+      memory = record { rom = refl; ram = refl; pages = map-is m (w .core .paging) };
       screen = record {
         position = omega arith;
         columns = omega arith;
@@ -119,5 +130,5 @@ every-state m rom w s ram-long rom-long =
       port = refl;
       ramLong = ram-long;
       romLong = rom-long;
-      inStep = sound-in-step m w s;
+      inStep = sound-in-step (ourMachine m) w s;
     }

@@ -1,7 +1,7 @@
 -- The Rust's address helpers, colours and attributes are document 01's, and its panics fall exactly where a call is refused.
 -- Assumes nothing.
 use mathlib.Core.Path.{_≡_, refl, ap, _∙_}
-use mathlib.Core.Bool.{Bool, true, false, cond, not}
+use mathlib.Core.Bool.{Bool, true, false, cond, not, _&&_, xor}
 use Prim.Native.Nat.{ℕ, zero, suc, _+_, _*_, _/_, _%_, _^_, _<_}
 use native.Mathlib.Omega.{arith}
 use lib.Dec.{ltb, leb, eqb}
@@ -13,19 +13,21 @@ use Rattle.screen.specs.declared.Helped.{Helped}
 use Rattle.screen.specs.declared.Helped.the-variants.{Number, OutOfRange}
 use Rattle.screen.specs.declared.Colored.{Colored}
 use Rattle.screen.specs.declared.Colored.the-variants as colored
-use Rattle.screen.specs.declared.ZXColor.{ZXColor}
-use Rattle.screen.specs.declared.ZXColor.the-variants.{Black, Blue, Red, Purple, Green, Cyan, Yellow, White}
-use Rattle.screen.specs.declared.ZXBrightness.{ZXBrightness}
-use Rattle.screen.specs.declared.ZXBrightness.the-variants.{Normal, Bright}
-use Rattle.screen.specs.declared.ZXAttribute.{ZXAttribute}
+use Rattle.screen.specs.declared.ZXColor as picture
+use Rattle.screen.specs.declared.ZXColor.the-variants as color
+use Rattle.screen.specs.declared.ZXBrightness as bright
+use Rattle.screen.specs.declared.ZXBrightness.the-variants as brightness
+use Rattle.screen.specs.declared.ZXAttribute as attribute
 use Rattle.screen.specs.Address.{lineAddress, lineOf, lineAt, columnAt, isAttribute, attributeRow, attributeColumn}
 use Rattle.screen.specs.Color as ours
 use Rattle.screen.specs.Color.{bit, colorOf, colorNumber, attributeOf}
 use Rattle.screen.specs.Pixel.{pixelByte}
 use Rattle.screen.proofs.OneBit.{mask-bit}
+use Rattle.screen.proofs.RoundTrips.{number-then-color}
 use Rattle.rustzx.specs.Panics.{Run, done, panics, assert}
 use Rattle.rustzx.specs.Addresses.{lineAddr, bitmapLineAddr, lineRel, bitmapLineRel, bitmapColRel, attrRowRel, attrColRel}
-use Rattle.rustzx.specs.Colors.{fromBits, colorByte, brightnessByte, fromByte, activeColor}
+use Rattle.rustzx.specs.Colors.{ZXColor, Black, Blue, Red, Purple, Green, Cyan, Yellow, White, ZXBrightness, Normal, Bright, ZXAttribute, fromBits, colorByte, brightnessByte, fromByte, activeColor}
+use Rattle.rustzx.specs.Related.{ourColor, ourBrightness, ourAttribute}
 
 -- ---- the five helpers: a number is that number, and a refusal 8 is a panic
 abbrev pub asRun : Helped → Run ℕ
@@ -78,8 +80,47 @@ unfolding attrColRel
 attr-col-is addr = asserted (isAttribute addr) (λ e. refl)
 
 -- ---- colours
+-- each colour, brightness and attribute of ours is the Rust's
+abbrev pub rustColor : picture.ZXColor → ZXColor
+rustColor color.Black = Black
+rustColor color.Blue = Blue
+rustColor color.Red = Red
+rustColor color.Purple = Purple
+rustColor color.Green = Green
+rustColor color.Cyan = Cyan
+rustColor color.Yellow = Yellow
+rustColor color.White = White
+
+abbrev pub rustBrightness : bright.ZXBrightness → ZXBrightness
+rustBrightness brightness.Normal = Normal
+rustBrightness brightness.Bright = Bright
+
+abbrev pub rustAttribute : attribute.ZXAttribute → ZXAttribute
+rustAttribute a = record { ink = rustColor (a .ink); paper = rustColor (a .paper); flash = a .flash; brightness = rustBrightness (a .brightness) }
+
+color-there : (c : picture.ZXColor) → ourColor (rustColor c) ≡ c
+color-there color.Black = refl
+color-there color.Blue = refl
+color-there color.Red = refl
+color-there color.Purple = refl
+color-there color.Green = refl
+color-there color.Cyan = refl
+color-there color.Yellow = refl
+color-there color.White = refl
+
+brightness-there : (b : bright.ZXBrightness) → ourBrightness (rustBrightness b) ≡ b
+brightness-there brightness.Normal = refl
+brightness-there brightness.Bright = refl
+
+attribute-by : (f : Bool) {i i′ p p′ : picture.ZXColor} {b b′ : bright.ZXBrightness} → i ≡ i′ → p ≡ p′ → b ≡ b′
+    → _≡_ {A = attribute.ZXAttribute} (record { ink = i; paper = p; brightness = b; flash = f }) (record { ink = i′; paper = p′; brightness = b′; flash = f })
+attribute-by f e g h = cc
+
+pub attribute-there : (a : attribute.ZXAttribute) → ourAttribute (rustAttribute a) ≡ a
+attribute-there a = attribute-by (a .flash) (color-there (a .ink)) (color-there (a .paper)) (brightness-there (a .brightness))
+
 abbrev pub coloredRun : Colored → Run ZXColor
-coloredRun (colored.Color c) = done c
+coloredRun (colored.Color c) = done (rustColor c)
 coloredRun colored.OutOfRange = panics
 
 -- from_bits: every number, those that panic among them
@@ -98,11 +139,11 @@ from-bits-is (suc (suc (suc (suc (suc (suc (suc (suc n)))))))) =
     rw l
 
 -- a number below 8 is its colour
-pub from-bits-done : (n : ℕ) → n < 8 → fromBits n ≡ done (colorOf n)
+pub from-bits-done : (n : ℕ) → n < 8 → fromBits n ≡ done (rustColor (colorOf n))
 from-bits-done n h = let l = le-leb n 7 (omega arith) in from-bits-is n ∙ rw l
 
 -- u8::from(color)
-pub color-byte-is : (c : ZXColor) → colorByte c ≡ colorNumber c
+pub color-byte-is : (c : ZXColor) → colorByte c ≡ colorNumber (ourColor c)
 color-byte-is Black = refl
 color-byte-is Blue = refl
 color-byte-is Red = refl
@@ -112,8 +153,15 @@ color-byte-is Cyan = refl
 color-byte-is Yellow = refl
 color-byte-is White = refl
 
+pub color-number : (c : picture.ZXColor) → colorByte (rustColor c) ≡ colorNumber c
+color-number c = color-byte-is (rustColor c) ∙ ap colorNumber (color-there c)
+
+-- a number below 8 is that of its colour
+pub color-back : (n : ℕ) → n < 8 → colorByte (rustColor (colorOf n)) ≡ n
+color-back n h = color-number (colorOf n) ∙ number-then-color n (omega arith) .1
+
 -- what set_color puts into a frame buffer is the pixel's byte
-pub pixel-byte-is : (c : ZXColor) (b : ZXBrightness) → colorByte c + 8 * brightnessByte b ≡ pixelByte c b
+pub pixel-byte-is : (c : ZXColor) (b : ZXBrightness) → colorByte c + 8 * brightnessByte b ≡ pixelByte (ourColor c) (ourBrightness b)
 pixel-byte-is c Normal = rw (color-byte-is c) (omega arith)
 pixel-byte-is c Bright = rw (color-byte-is c)
 
@@ -125,11 +173,18 @@ bit-set k n = rw (mask-bit k n) (not-not (bit k n)) where
   not-not false = refl
 
 -- from_byte never panics, and gives the attribute of the byte
-pub from-byte-is : (v : ℕ) → fromByte v ≡ done (attributeOf v)
+pub from-byte-is : (v : ℕ) → fromByte v ≡ done (rustAttribute (attributeOf v))
 unfolding fromByte
 from-byte-is v =
     rw (and-mask v 3, and-mask (v / 8) 3, from-bits-done (v % 8) (omega arith), from-bits-done (v / 8 % 8) (omega arith), bit-set 6 v, bit-set 7 v)
+    (ap (λ (b : ZXBrightness). done (record { ink = rustColor (colorOf (v % 8)); paper = rustColor (colorOf (v / 8 % 8)); flash = bit 7 v; brightness = b })) (by-test (bit 6 v))) where
+      by-test : (t : Bool) → cond t Bright Normal ≡ rustBrightness (cond t brightness.Bright brightness.Normal)
+      by-test true = refl
+      by-test false = refl
 
--- active_color is letter by letter the same
-pub active-is : (a : ZXAttribute) (state flash : Bool) → activeColor a state flash ≡ ours.activeColor a state flash
-active-is a state flash = refl
+-- active_color is the active colour
+pub active-is : (a : ZXAttribute) (state flash : Bool) → ourColor (activeColor a state flash) ≡ ours.activeColor (ourAttribute a) state flash
+active-is a state flash = picked (xor state (a .flash && flash)) where
+  picked : (t : Bool) → ourColor (cond t (a .ink) (a .paper)) ≡ cond t (ourColor (a .ink)) (ourColor (a .paper))
+  picked true = refl
+  picked false = refl

@@ -1,15 +1,13 @@
 -- In Rust a subtraction below 0 and an index past the end panic too. The definitions write them plainly, as `-`, `getD` and `set`; here each that
 -- no test right before it guards is shown to stay in range on related states, so that what is plain in the definitions never panics either.
 -- Assumes nothing.
-use mathlib.Core.Path.{_≡_, refl, ap, _∙_}
+use mathlib.Core.Path.{_≡_, refl, sym, ap, _∙_}
 use mathlib.Core.List.{List}
-use Prim.Native.Nat.{ℕ, _+_, _-_, _*_, _/_, _%_, _<_, _≤_}
+use Prim.Native.Nat.{ℕ, _+_, _-_, _*_, _/_, _%_, _^_, _<_, _≤_}
 use native.Mathlib.Omega.{arith}
-use lib.Dec.{lit<}
-use lib.ListN.{length}
+use lib.Dec.{ltb, leb, lit<}
+use lib.ListN.{length, length-map}
 use Rattle.laws.proofs.Cases.{by-bool}
-use Rattle.machine.specs.declared.ZXMachine.{ZXMachine}
-use Rattle.machine.specs.declared.ZXMachine.the-variants.{Sinclair48K, Sinclair128K}
 use Rattle.machine.specs.declared.BorderPlace.{BorderPlace}
 use Rattle.machine.specs.declared.BorderPlace.the-variants.{At, FrameEnd}
 use Rattle.machine.specs.Numbers.{specsOf}
@@ -18,47 +16,47 @@ use Rattle.machine.proofs.Bounds.{Within, border-within, position-small}
 use Rattle.machine.proofs.Numbered.{regular}
 use Rattle.machine.proofs.Rising.{blocks-mono}
 use Rattle.screen.specs.Address.{lineOf}
-use Rattle.memory.specs.declared.Page.{Page}
-use Rattle.memory.specs.declared.Page.the-variants as page
-use Rattle.memory.specs.Paging.{bitSet, memoryMap, pageAt}
+use Rattle.memory.specs.Paging.{bitSet, memoryMap}
 use Rattle.memory.specs.Memory.{Holds}
 use Rattle.memory.proofs.Places.{map-holds}
 use Rattle.offsets.specs.Offset.{lineStart}
 use Rattle.bus.specs.World.{World}
-use Rattle.rustzx.specs.Memory.{ZXMemory, pageSize, getPage}
-use Rattle.rustzx.specs.Screen.{fromClocks, blockIndex, activeBankOf}
+use Rattle.rustzx.specs.Machine.{ZXMachine, Sinclair48K, Sinclair128K, specs}
+use Rattle.rustzx.specs.Memory.{Page, Rom, Ram, ZXMemory, pageSize, getPage}
+use Rattle.rustzx.specs.Screen.{fromClocks, passedFrom, ZXScreen, blockIndex, activeBankOf, processClocks, newFrame}
 use Rattle.rustzx.specs.Border.{nextBorderPixel, screenWidth}
-use Rattle.rustzx.specs.Controller.{ZXController, floatingColumn}
-use Rattle.rustzx.specs.Related.{memoryOf, activeOf, Related}
+use Rattle.rustzx.specs.Controller.{ZXController, floatingColumn, waitInternal}
+use Rattle.rustzx.specs.Related.{ourMachine, ourPage, activeOf, Related}
 use Rattle.rustzx.proofs.Timing.{blocks-are, nextOf, border-is}
 use Rattle.rustzx.proofs.Screens.{active-mirrors}
+use Rattle.rustzx.proofs.Pages.{page-is}
 
 -- memory: the page's entry of the map, and the byte behind it
 abbrev pub Inside : ZXMemory → Page → ℕ → Type 0
-Inside mem (page.Rom p) offset = p * pageSize + offset < length (mem .rom)
-Inside mem (page.Ram p) offset = p * pageSize + offset < length (mem .ram)
+Inside mem (Rom p) offset = p * pageSize + offset < length (mem .rom)
+Inside mem (Ram p) offset = p * pageSize + offset < length (mem .ram)
 
-four : (m : ZXMachine) (paging : ℕ) → length (memoryMap m paging) ≡ 4
+four : (m : ZXMachine) (paging : ℕ) → length (memoryMap (ourMachine m) paging) ≡ 4
 four Sinclair48K paging = refl
 four Sinclair128K paging = refl
 
-held-inside : (mem : ZXMemory) (p : Page) (offset : ℕ) → offset < 16384 → Holds p (length (mem .rom)) (length (mem .ram)) → Inside mem p offset
-held-inside mem (page.Rom p) offset h k = omega arith
-held-inside mem (page.Ram p) offset h k = omega arith
+held-inside : (mem : ZXMemory) (p : Page) (offset : ℕ) → offset < 16384 → Holds (ourPage p) (length (mem .rom)) (length (mem .ram)) → Inside mem p offset
+held-inside mem (Rom p) offset h k = omega arith
+held-inside mem (Ram p) offset h k = omega arith
 
 module _ (m : ZXMachine) (rom : List ℕ) (c : ZXController) (w : World) (r : Related m rom c w) where
   -- `self.map[addr / PAGE_SIZE]`, of an address of 16 bits
   pub map-in-range : (addr : ℕ) → addr < 65536 → addr / pageSize < length (c .memory .map)
   map-in-range addr h =
-      let e : length (c .memory .map) ≡ 4 = ap (λ (mem : ZXMemory). length (mem .map)) (r .memory) ∙ four m (w .core .paging) in
+      let e : length (c .memory .map) ≡ 4 = sym (length-map (c .memory .map) ourPage) ∙ ap length (r .memory .pages) ∙ four m (w .core .paging) in
       omega arith
 
   -- `self.rom[..]` and `self.ram[..]` of read and write
   pub byte-in-range : (addr : ℕ) → Inside (c .memory) (getPage (c .memory) addr) (addr % pageSize)
   byte-in-range addr =
-      rw (r .memory)
-      (held-inside (memoryOf m rom (w .core)) (pageAt m (w .core .paging) (addr / 16384)) (addr % 16384) (omega arith)
-      (rw (r .romLong, r .ramLong) (map-holds m (w .core .paging) (addr / 16384))))
+      held-inside (c .memory) (getPage (c .memory) addr) (addr % 16384) (omega arith)
+      (rw (page-is (ourMachine m) rom (w .core .ram) (w .core .paging) (c .memory) (r .memory) addr, r .memory .rom, r .memory .ram, r .romLong, r .ramLong)
+      (map-holds (ourMachine m) (w .core .paging) (addr / 16384)))
 
   -- passed_from: no difference goes below 0, whichever arm is taken, at any clock that wait_internal comes to
   pub passed-in-range : (n : ℕ)
@@ -67,7 +65,7 @@ module _ (m : ZXMachine) (rom : List ℕ) (c : ZXController) (w : World) (r : Re
   passed-in-range n =
       let t : ℕ = w .core .clock + n in
       let e = blocks-are m t in
-      let up = blocks-mono (specsOf m) (regular m .wide) (w .core .clock) t (omega arith) in
+      let up = blocks-mono (specsOf (ourMachine m)) (regular (ourMachine m) .wide) (w .core .clock) t (omega arith) in
       let old = r .inStep .painted in
       let at = r .screen .position in
       (r .screen .columns, rw (r .clock) (λ same. omega (arith, e .lines, e .columns)))
@@ -78,7 +76,7 @@ module _ (m : ZXMachine) (rom : List ℕ) (c : ZXController) (w : World) (r : Re
   blocks-in-range n k h =
       let mi = active-mirrors m (c .screen) (w .core .paging) (w .core .ram) (r .screen .active) (r .screen .mirrored) in
       let e = blocks-are m (c .frameClocks + n) in
-      let small = position-small (specsOf m) (c .frameClocks + n) in
+      let small = position-small (specsOf (ourMachine m)) (c .frameClocks + n) in
       let l : k < 6144 = omega (arith, e .lines, e .columns) in
       (rw (mi .bitmapLong) l, rw (mi .attributesLong) (omega arith))
 
@@ -102,8 +100,28 @@ next-small (At line pixel) i = omega (arith, i)
 next-small FrameEnd i = omega arith
 
 pub fills-in-range : (m : ZXMachine) (t : ℕ) → nextBorderPixel m t .line * screenWidth + nextBorderPixel m t .pixel ≤ 76800
-fills-in-range m t = rw (border-is m t) (next-small (borderAt (specsOf m) t) (border-within (specsOf m) t))
+fills-in-range m t = rw (border-is m t) (next-small (borderAt (specsOf (ourMachine m)) t) (border-within (specsOf (ourMachine m)) t))
 
 -- the floating bus: the address that it reads fits 16 bits
 pub floating-in-range : (row r : ℕ) → row < 192 → r < 124 → (0x4000 + lineStart row + floatingColumn r < 65536) × (0x5800 + (row / 8 * 32 + floatingColumn r) < 65536)
 floating-in-range row r h k = (omega arith, omega arith)
+
+-- ---- frame_counter and passed_frames are usizes, and the definitions let them grow without end. Only new_frame raises them, by one each, so that they
+-- rise together. passed_frames is 4,294,967,294 at most where a timed call is accepted, and one more after it, which 32 bits hold ..
+process-counter : (m : ZXMachine) (t : ℕ) (s : ZXScreen) → processClocks m t s .frameCounter ≡ s .frameCounter
+unfolding processClocks
+process-counter m t s =
+    by-bool (λ (x : ZXScreen). x .frameCounter ≡ s .frameCounter) (ltb 0 (passedFrom (fromClocks m t) (s .lastBlocks))) (λ e. refl) (λ e. refl)
+
+pub counters-together : (n : ℕ) (c : ZXController)
+    → waitInternal n c .screen .frameCounter + c .passedFrames ≡ c .screen .frameCounter + waitInternal n c .passedFrames
+unfolding waitInternal newFrame
+counters-together n c =
+    let p = process-counter (c .machine) (c .frameClocks + n) (c .screen) in
+    by-bool (λ (x : ZXController). x .screen .frameCounter + c .passedFrames ≡ c .screen .frameCounter + x .passedFrames)
+    (leb (specs (c .machine) .clocksFrame) (c .frameClocks + n)) (λ e. omega arith) (λ e. omega arith)
+
+-- .. and frame_counter, which nothing sets back, counts the frames since the start. Where it starts again at 2^32 or 2^64, its value modulo 32, all that
+-- the relation asks of it, is what it would have been.
+pub counter-wraps : (n : ℕ) → (n % 2 ^ 32 % 32 ≡ n % 32) × (n % 2 ^ 64 % 32 ≡ n % 32)
+counter-wraps n = (omega arith, omega arith)

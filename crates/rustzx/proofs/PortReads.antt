@@ -5,13 +5,14 @@ use mathlib.Core.Bool.{Bool, true, false, cond, not, _&&_}
 use mathlib.Core.List.{List, []}
 use Prim.Native.Nat.{ℕ, zero, suc, _+_, _-_, _*_, _/_, _%_, _^_, _<_, _≤_}
 use native.Mathlib.Nat.{zero-add}
+use lib.ListN.{getD, take, drop}
+use lib.Seq.{getD-take, getD-drop}
 use lib.Pow.{shr-shr}
 use native.Mathlib.Omega.{arith}
 use lib.Dec.{ltb, leb, eqb}
 use lib.Bits.{bitAnd, bitXor, and-mask}
 use borrow.Author.Tests.{ltb-true, ltb-false, leb-true, leb-false, lt-ltb, le-ltb, le-leb, eq-eqb, ne-eqb}
-use Rattle.machine.specs.declared.ZXMachine.{ZXMachine}
-use Rattle.machine.specs.declared.ZXMachine.the-variants.{Sinclair48K, Sinclair128K}
+use Rattle.machine.specs.Numbers.{specsOf}
 use Rattle.screen.proofs.OneBit.{mask-bit}
 use Rattle.memory.specs.Memory.{placeOf, byteAt}
 use Rattle.ports.specs.declared.Devices.{Devices}
@@ -34,13 +35,14 @@ use Rattle.ports.specs.Order.{buttonsPort, xPort, yPort, classC000, joystickPor
 use Rattle.ports.proofs.Rows.{rows-byte, and-byte}
 use Rattle.bus.specs.World.{Core, World}
 use Rattle.bus.specs.Calls.{floatingByte, floatingBus, answered}
+use Rattle.rustzx.specs.Machine.{ZXMachine, Sinclair48K, Sinclair128K}
 use Rattle.rustzx.specs.Panics.{Run, done, each}
-use Rattle.rustzx.specs.Memory.{ZXMemory, read}
+use Rattle.rustzx.specs.Memory.{read}
 use Rattle.rustzx.specs.Addresses.{bitmapLineAddr}
-use Rattle.rustzx.specs.Controller.{ZXController, keyboardByte, rowRead, ulaRead, floatingColumn, fetchFloating, floatingBusValue, joystickRead, ayRead, afterMouse, mouseRead, extenderRead}
-use Rattle.rustzx.specs.Related.{memoryOf, Related}
+use Rattle.rustzx.specs.Controller.{ZXController, keyboardByte, rowRead, ulaRead, floatingColumn, fetchFloating, floatingBusValue, kempstonRead, ayRead, afterMouse, mouseRead, extenderRead}
+use Rattle.rustzx.specs.Related.{ourMachine, extenderGives, ayGives, joystickGives, mouseGives, attachedOf, SameMemory, Related}
 use Rattle.rustzx.proofs.Loops.{each-last}
-use Rattle.rustzx.proofs.Timing.{port-is}
+use Rattle.rustzx.proofs.Timing.{numbers, port-is}
 use Rattle.rustzx.proofs.Helpers.{line-address-is}
 use Rattle.rustzx.proofs.Pages.{read-is}
 
@@ -55,13 +57,21 @@ row-kept : (t : Bool) (tmp k : ℕ) → tmp < 256 → cond t (bitAnd tmp k) tmp 
 row-kept true tmp k h = refl
 row-kept false tmp k h = sym (and-byte tmp h)
 
-rows-are : (d : Devices) (port n : ℕ) → each 0 n (rowRead d (port / 256)) 0xFF ≡ rowsAnd (d .rows) port n
+-- the three keyboards are the three sets of rows
+set-is : (at : ℕ) (rows : List ℕ) (n k : ℕ) → n < 8 → n + at ≡ k → getD (take 8 (drop at rows)) n 0 ≡ getD rows k 0
+set-is at rows n k h e = getD-take 8 (drop at rows) n 0 h ∙ getD-drop at rows n 0 ∙ ap (λ (i : ℕ). getD rows i 0) (omega arith)
+
+keyboards-are : (d : Devices) (n : ℕ) → n < 8 → keyboardByte (attachedOf d) n ≡ rowIn (d .rows) n
+keyboards-are d n h =
+    ap₂ bitAnd (ap₂ bitAnd (getD-take 8 (d .rows) n 0 h) (set-is 8 (d .rows) n (n + 8) h refl)) (set-is 16 (d .rows) n (n + 16) h refl)
+
+rows-are : (d : Devices) (port n : ℕ) → n ≤ 8 → each 0 n (rowRead (attachedOf d) (port / 256)) 0xFF ≡ rowsAnd (d .rows) port n
 unfolding each rowsAnd
-rows-are d port zero = refl
-rows-are d port (suc n) =
-    each-last 0 n (rowRead d (port / 256)) 0xFF
-    ∙ ap₂ (λ (k tmp : ℕ). rowRead d (port / 256) k tmp) (zero-add n) (rows-are d port n)
-    ∙ ap (λ (t : Bool). cond t (bitAnd (rowsAnd (d .rows) port n) (keyboardByte d n)) (rowsAnd (d .rows) port n)) (high-bit port n)
+rows-are d port zero h = refl
+rows-are d port (suc n) h =
+    each-last 0 n (rowRead (attachedOf d) (port / 256)) 0xFF
+    ∙ ap₂ (λ (k tmp : ℕ). rowRead (attachedOf d) (port / 256) k tmp) (zero-add n) (rows-are d port n (omega arith))
+    ∙ ap₂ (λ (t : Bool) (k : ℕ). cond t (bitAnd (rowsAnd (d .rows) port n) k) (rowsAnd (d .rows) port n)) (high-bit port n) (keyboards-are d n (omega arith))
     ∙ row-kept (selected port n) (rowsAnd (d .rows) port n) (rowIn (d .rows) n) (rows-byte (d .rows) port n)
 
 tape-is : (t v : ℕ) → t < 2 → cond (not (eqb t 1)) (bitXor v 0x40) v ≡ cond (eqb t 0) (bitXor v 0x40) v
@@ -70,13 +80,13 @@ tape-is (suc zero) v h = refl
 tape-is (suc (suc t)) v h = absurd (omega arith)
 
 -- An even port's byte, with a tape bit of 0 or 1.
-pub keys-are : (d : Devices) (port : ℕ) → d .tape < 2 → ulaRead d port ≡ keysRead (d .rows) (d .tape) port
+pub keys-are : (d : Devices) (port : ℕ) → d .tape < 2 → ulaRead (attachedOf d) port ≡ keysRead (d .rows) (d .tape) port
 unfolding keysRead
-keys-are d port h = rw (rows-are d port 8) (tape-is (d .tape) (rowsAnd (d .rows) port 8) h)
+keys-are d port h = rw (rows-are d port 8 (omega arith)) (tape-is (d .tape) (rowsAnd (d .rows) port 8) h)
 
 -- ---- the floating bus
 -- what the ULA fetches stands at 4000h to 7FFFh, which is RAM on both machines
-video-byte : (m : ZXMachine) (paging : ℕ) (rom ram : List ℕ) (addr : ℕ) → addr / 16384 ≡ 1 → byteAt m paging rom ram addr ≡ byteAt m paging [] ram addr
+video-byte : (m : ZXMachine) (paging : ℕ) (rom ram : List ℕ) (addr : ℕ) → addr / 16384 ≡ 1 → byteAt (ourMachine m) paging rom ram addr ≡ byteAt (ourMachine m) paging [] ram addr
 unfolding placeOf
 video-byte Sinclair48K paging rom ram addr e = rw e
 video-byte Sinclair128K paging rom ram addr e = rw e
@@ -95,12 +105,12 @@ idle-bit : (r : ℕ) (t : Bool) → ltb 3 (r % 8) ≡ t → eqb (bitAnd r 0x04) 
 idle-bit r true e = let h = ltb-true 3 (r % 8) e in mask-bit 2 r ∙ ap not (eq-eqb (r / 4 % 2) 1 (omega arith))
 idle-bit r false e = let h = ltb-false 3 (r % 8) e in mask-bit 2 r ∙ ap not (ne-eqb (r / 4 % 2) 1 (λ g. omega arith))
 
-module _ (m : ZXMachine) (rom : List ℕ) (c : ZXController) (core : Core) (mem : c .memory ≡ memoryOf m rom core) where
+module _ (m : ZXMachine) (rom : List ℕ) (c : ZXController) (core : Core) (mem : SameMemory (ourMachine m) rom (core .ram) (core .paging) (c .memory)) where
   abbrev byte : FloatingPlace → ℕ
-  byte p = floatingByte m (floatingAddress p) core
+  byte p = floatingByte (ourMachine m) (floatingAddress p) core
 
-  read-video : (addr : ℕ) → addr / 16384 ≡ 1 → read (c .memory) addr ≡ byteAt m (core .paging) [] (core .ram) addr
-  read-video addr e = ap (λ (x : ZXMemory). read x addr) mem ∙ read-is m rom core addr ∙ video-byte m (core .paging) rom (core .ram) addr e
+  read-video : (addr : ℕ) → addr / 16384 ≡ 1 → read (c .memory) addr ≡ byteAt (ourMachine m) (core .paging) [] (core .ram) addr
+  read-video addr e = read-is (ourMachine m) rom (core .ram) (core .paging) (c .memory) mem addr ∙ video-byte m (core .paging) rom (core .ram) addr e
 
   pick-byte : (t : Bool) {x y : Run ℕ} (u v : FloatingPlace) → x ≡ done (byte u) → y ≡ done (byte v) → cond t x y ≡ done (byte (cond t u v))
   pick-byte true u v p q = p
@@ -134,41 +144,38 @@ module _ (m : ZXMachine) (rom : List ℕ) (c : ZXController) (core : Core) (mem 
       (floating-at row r (leb 192 row) (leb 124 r) (ltb 3 (r % 8)) refl refl refl)
 
 -- The floating bus gives the same byte, at every clock.
-floating-by : (m : ZXMachine) (rom : List ℕ) (c : ZXController) (core : Core) → c .machine ≡ m → c .memory ≡ memoryOf m rom core → c .frameClocks ≡ core .clock
-    → floatingBusValue c ≡ done (floatingBus m core)
+floating-by : (m : ZXMachine) (rom : List ℕ) (c : ZXController) (core : Core) → c .machine ≡ m → SameMemory (ourMachine m) rom (core .ram) (core .paging) (c .memory) → c .frameClocks ≡ core .clock
+    → floatingBusValue c ≡ done (floatingBus (ourMachine m) core)
 unfolding floatingBusValue floatingBus floatingPlace
-floating-by Sinclair48K rom c core e mem t =
-    rw (e, t)
-    (pick-byte Sinclair48K rom c core mem (ltb (core .clock) 14338) place.Idle (floatingIn ((core .clock - 14338) / 224) ((core .clock - 14338) % 224)) refl
-    (floating-in Sinclair48K rom c core mem ((core .clock - 14338) / 224) ((core .clock - 14338) % 224)))
-floating-by Sinclair128K rom c core e mem t =
-    rw (e, t)
-    (pick-byte Sinclair128K rom c core mem (ltb (core .clock) 14364) place.Idle (floatingIn ((core .clock - 14364) / 228) ((core .clock - 14364) % 228)) refl
-    (floating-in Sinclair128K rom c core mem ((core .clock - 14364) / 228) ((core .clock - 14364) % 228)))
+floating-by m rom c core e mem t =
+    let o = specsOf (ourMachine m) in
+    rw (e, t, numbers m .floating, numbers m .line, numbers m .screenRow)
+    (pick-byte m rom c core mem (ltb (core .clock) (o .block)) place.Idle (floatingIn ((core .clock - o .block) / o .line) ((core .clock - o .block) % o .line)) refl
+    (floating-in m rom c core mem ((core .clock - o .block) / o .line) ((core .clock - o .block) % o .line)))
 
-pub floating-is : (m : ZXMachine) (rom : List ℕ) (c : ZXController) (w : World) → Related m rom c w → floatingBusValue c ≡ done (floatingBus m (w .core))
+pub floating-is : (m : ZXMachine) (rom : List ℕ) (c : ZXController) (w : World) → Related m rom c w → floatingBusValue c ≡ done (floatingBus (ourMachine m) (w .core))
 floating-is m rom c w r = floating-by m rom c (w .core) (r .machine) (r .memory) (r .clock)
 
 -- ---- the devices, from the end of the order to its start
-module _ (m : ZXMachine) (c : ZXController) (core : Core) (floats : floatingBusValue c ≡ done (floatingBus m core)) where
-  pick-answer : (t : Bool) {x y : Run ℕ} (u v : Answer) → x ≡ done (answered m u core) → y ≡ done (answered m v core)
-      → cond t x y ≡ done (answered m (cond t u v) core)
+module _ (m : ZXMachine) (c : ZXController) (core : Core) (floats : floatingBusValue c ≡ done (floatingBus (ourMachine m) core)) where
+  pick-answer : (t : Bool) {x y : Run ℕ} (u v : Answer) → x ≡ done (answered (ourMachine m) u core) → y ≡ done (answered (ourMachine m) v core)
+      → cond t x y ≡ done (answered (ourMachine m) (cond t u v) core)
   pick-answer true u v p q = p
   pick-answer false u v p q = q
 
-  joystick-is : (j : Joystick) (port : ℕ) → joystickRead j port c ≡ done (answered m (withJoystick j port) core)
+  joystick-is : (j : Joystick) (port : ℕ) → kempstonRead (joystickGives j) port c ≡ done (answered (ourMachine m) (withJoystick j port) core)
   joystick-is joystick.Absent port = floats
   joystick-is (joystick.Present byte) port = pick-answer (joystickPort port) (Value byte) Floating refl floats
 
-  ay-is : (a : Ay) → ayRead a c ≡ done (answered m (ayByte a) core)
+  ay-is : (a : Ay) → ayRead (ayGives a) c ≡ done (answered (ourMachine m) (ayByte a) core)
   ay-is ay.Absent = floats
   ay-is (ay.Present byte) = refl
 
-  rest-is : (d : Devices) (port : ℕ) → afterMouse d port c ≡ done (answered m (withAy (d .ay) port (withJoystick (d .joystick) port)) core)
+  rest-is : (d : Devices) (port : ℕ) → afterMouse (attachedOf d) port c ≡ done (answered (ourMachine m) (withAy (d .ay) port (withJoystick (d .joystick) port)) core)
   rest-is d port = pick-answer (classC000 port) (ayByte (d .ay)) (withJoystick (d .joystick) port) (ay-is (d .ay)) (joystick-is (d .joystick) port)
 
   mouse-is : (k : Mouse) (d : Devices) (port : ℕ)
-      → mouseRead k d port c ≡ done (answered m (withMouse k port (withAy (d .ay) port (withJoystick (d .joystick) port))) core)
+      → mouseRead (mouseGives k) (attachedOf d) port c ≡ done (answered (ourMachine m) (withMouse k port (withAy (d .ay) port (withJoystick (d .joystick) port))) core)
   mouse-is mouse.Absent d port = rest-is d port
   mouse-is (mouse.Present ports) d port =
       let rest = withAy (d .ay) port (withJoystick (d .joystick) port) in
@@ -177,15 +184,15 @@ module _ (m : ZXMachine) (c : ZXController) (core : Core) (floats : floatingBusV
       (pick-answer (yPort port) (Value (ports .y)) rest refl (rest-is d port)))
 
   extender-is : (x : Extender) (d : Devices) (port : ℕ) → d .tape < 2
-      → extenderRead x d port c
-      ≡ done (answered m (withExtender x (cond (evenPort port) (Value (keysRead (d .rows) (d .tape) port)) (withMouse (d .mouse) port (withAy (d .ay) port (withJoystick (d .joystick) port))))) core)
+      → extenderRead (extenderGives x) (attachedOf d) port c
+      ≡ done (answered (ourMachine m) (withExtender x (cond (evenPort port) (Value (keysRead (d .rows) (d .tape) port)) (withMouse (d .mouse) port (withAy (d .ay) port (withJoystick (d .joystick) port))))) core)
   extender-is (extender.Present byte) d port h = refl
   extender-is extender.Absent d port h =
       let rest = withMouse (d .mouse) port (withAy (d .ay) port (withJoystick (d .joystick) port)) in
-      ap (λ (t : Bool). cond t (done (ulaRead d port)) (mouseRead (d .mouse) d port c)) (port-is m port)
+      ap (λ (t : Bool). cond t (done (ulaRead (attachedOf d) port)) (mouseRead (mouseGives (d .mouse)) (attachedOf d) port c)) (port-is m port)
       ∙ pick-answer (evenPort port) (Value (keysRead (d .rows) (d .tape) port)) rest (ap done (keys-are d port h)) (mouse-is (d .mouse) d port)
 
   -- The read order, whole: who answers, and with which byte.
-  pub order-is : (d : Devices) (port : ℕ) → d .tape < 2 → extenderRead (d .extender) d port c ≡ done (answered m (readOrder d port) core)
+  pub order-is : (d : Devices) (port : ℕ) → d .tape < 2 → extenderRead (attachedOf d .ioExtender) (attachedOf d) port c ≡ done (answered (ourMachine m) (readOrder d port) core)
   unfolding readOrder
   order-is d port h = extender-is (d .extender) d port h

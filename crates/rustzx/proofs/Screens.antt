@@ -12,14 +12,15 @@ use lib.Seq.{sets}
 use Rattle.laws.proofs.Below.{same-bool}
 use Rattle.laws.proofs.Cases.{by-lt, by-eq}
 use Rattle.laws.proofs.Stores.{eight}
-use Rattle.machine.specs.declared.ZXMachine.{ZXMachine}
-use Rattle.machine.specs.declared.ZXMachine.the-variants.{Sinclair48K, Sinclair128K}
 use Rattle.machine.specs.Numbers.{specsOf}
 use Rattle.machine.specs.Timing.{blockPosition}
 use Rattle.machine.proofs.Bounds.{blocks-small, position-small}
 use Rattle.offsets.specs.Offset.{offsetOf}
-use Rattle.screen.specs.Color.{bit, attributeOf, activeColor}
-use Rattle.screen.specs.Pixel.{pixelOf, blockOf}
+use Rattle.screen.specs.declared.ZXColor as picture
+use Rattle.screen.specs.declared.ZXAttribute as attribute
+use Rattle.screen.specs.Color as ours
+use Rattle.screen.specs.Color.{bit, attributeOf}
+use Rattle.screen.specs.Pixel.{pixelByte, pixelOf, blockOf}
 use Rattle.screen.specs.Address.{attributeOffset}
 use Rattle.paint.specs.Paint.{blockAt, paint}
 use Rattle.screen.proofs.Attributes.{pixel-of-attribute}
@@ -28,12 +29,14 @@ use Rattle.memory.specs.Paging.{bitSet, shownPage}
 use Rattle.memory.specs.Memory.{ramPage}
 use Rattle.bus.specs.World.{Core, Screen}
 use Rattle.bus.specs.Time.{Look, flashOn, lookAt, paintFrom, showsA, hiddenPicture, caughtUp, rewound}
+use Rattle.rustzx.specs.Machine.{ZXMachine, Sinclair48K, Sinclair128K}
 use Rattle.rustzx.specs.Panics.{each}
+use Rattle.rustzx.specs.Colors.{activeColor}
 use Rattle.rustzx.specs.Screen.{BlocksCount, fromClocks, passedFrom, ScreenBank, ZXScreen, pixelState, attrOf, activeBankOf, drawPixel, drawBlock, blockIndex, rendered, processClocks, newFrame}
-use Rattle.rustzx.specs.Related.{Mirrors, Mirrored, activeOf, SameScreen}
+use Rattle.rustzx.specs.Related.{ourBrightness, ourAttribute, ourMachine, Mirrors, Mirrored, activeOf, SameScreen}
 use Rattle.rustzx.proofs.Loops.{each-last, each-same}
 use Rattle.rustzx.proofs.Timing.{blocks-are}
-use Rattle.rustzx.proofs.Helpers.{bit-set, pixel-byte-is}
+use Rattle.rustzx.proofs.Helpers.{bit-set, pixel-byte-is, active-is}
 
 -- ---- one pixel
 -- ((bitmap << pixel) & 0x80) != 0 is bit 7 - pixel
@@ -53,7 +56,7 @@ state-is bitmap i h = bit-set 7 (bitmap * 2 ^ i % 256) ∙ ap (λ (x : ℕ). eqb
 
 module _ (bank : ScreenBank) (page : List ℕ) (flash : Bool) (r : Mirrors bank page) where
   module _ (k : ℕ) (h : k < 6144) where
-    attr-is : attrOf bank k ≡ attributeOf (getD page (attributeOffset k) 0)
+    attr-is : ourAttribute (attrOf bank k) ≡ attributeOf (getD page (attributeOffset k) 0)
     attr-is =
         let e : 0x1800 + (k / 256 * 32 + k % 32) ≡ attributeOffset k = omega arith in
         r .attributes (k / 256 * 32 + k % 32) (omega arith) ∙ rw e
@@ -63,9 +66,11 @@ module _ (bank : ScreenBank) (page : List ℕ) (flash : Bool) (r : Mirrors bank 
         → drawPixel bank flash k i q ≡ set q (8 * k + i) (pixelOf (getD page (attributeOffset k) 0) (getD page (offsetOf k) 0) flash i)
     draw-pixel i l q =
         let e : k / 32 * 256 + (k % 32 * 8 + i) ≡ 8 * k + i = omega arith in
-        rw (e, attr-is, r .bitmap k h, state-is (getD page (offsetOf k) 0) i l)
+        rw (e, r .bitmap k h, state-is (getD page (offsetOf k) 0) i l)
         (ap (set q (8 * k + i))
-        (pixel-byte-is (activeColor (attributeOf (getD page (attributeOffset k) 0)) (bit (7 - i) (getD page (offsetOf k) 0)) flash) (attributeOf (getD page (attributeOffset k) 0) .brightness)
+        (pixel-byte-is (activeColor (attrOf bank k) (bit (7 - i) (getD page (offsetOf k) 0)) flash) (attrOf bank k .brightness)
+        ∙ ap (λ (c : picture.ZXColor). pixelByte c (ourBrightness (attrOf bank k .brightness))) (active-is (attrOf bank k) (bit (7 - i) (getD page (offsetOf k) 0)) flash)
+        ∙ ap (λ (a : attribute.ZXAttribute). pixelByte (ours.activeColor a (bit (7 - i) (getD page (offsetOf k) 0)) flash) (a .brightness)) attr-is
         ∙ sym (pixel-of-attribute (getD page (attributeOffset k) 0) (getD page (offsetOf k) 0) flash i)))
 
     -- and a block is its eight pixels
@@ -117,30 +122,30 @@ mirrors-by true b0 b1 ram p q = q
 mirrors-by false b0 b1 ram p q = p
 
 pub active-mirrors : (m : ZXMachine) (s : ZXScreen) (paging : ℕ) (ram : List ℕ) → s .activeBank ≡ activeOf m paging → Mirrored m (s .bank0) (s .bank1) ram
-    → Mirrors (activeBankOf s) (ramPage (shownPage m paging) ram)
+    → Mirrors (activeBankOf s) (ramPage (shownPage (ourMachine m) paging) ram)
 active-mirrors Sinclair48K s paging ram e r =
     subst (λ (n : ℕ). Mirrors (cond (eqb n 0) (s .bank0) (s .bank1)) (ramPage 0 ram)) (sym e) r
 active-mirrors Sinclair128K s paging ram e r =
-    subst (λ (n : ℕ). Mirrors (cond (eqb n 0) (s .bank0) (s .bank1)) (ramPage (shownPage Sinclair128K paging) ram)) (sym e)
+    subst (λ (n : ℕ). Mirrors (cond (eqb n 0) (s .bank0) (s .bank1)) (ramPage (shownPage (ourMachine Sinclair128K) paging) ram)) (sym e)
     (mirrors-by (bitSet 3 paging) (s .bank0) (s .bank1) ram (r .0) (r .1))
 
 module _ (m : ZXMachine) (clk : ℕ) where
-  index-is : blockIndex (fromClocks m clk) ≡ blockPosition (specsOf m) clk
+  index-is : blockIndex (fromClocks m clk) ≡ blockPosition (specsOf (ourMachine m)) clk
   index-is = let e = blocks-are m clk in omega (arith, e .lines, e .columns)
 
   columns-small : fromClocks m clk .columns ≤ 32
-  columns-small = omega (arith, blocks-are m clk .columns, blocks-small (specsOf m) clk .in-columns)
+  columns-small = omega (arith, blocks-are m clk .columns, blocks-small (specsOf (ourMachine m)) clk .in-columns)
 
-  module _ (s : ZXScreen) (c : Core) (w : Screen) (r : SameScreen m s c w) (h : w .painted ≤ blockPosition (specsOf m) clk) where
+  module _ (s : ZXScreen) (c : Core) (w : Screen) (r : SameScreen m s c w) (h : w .painted ≤ blockPosition (specsOf (ourMachine m)) clk) where
     abbrev look : Look
-    look = lookAt m clk c
+    look = lookAt (ourMachine m) clk c
 
     drawn-is : (from to : ℕ) (flash : Bool) (q p : List ℕ) → from ≡ w .painted → to ≡ look .at → flash ≡ look .flash → q ≡ p
         → each from (to - from) (drawBlock (activeBankOf s) flash) q ≡ paintFrom look (w .painted) p
     drawn-is from to flash q p e f g i =
         rw (e, f, g, i)
         (draws (activeBankOf s) (ramPage (look .page) (look .ram)) (look .flash) (active-mirrors m s (c .paging) (c .ram) (r .active) (r .mirrored))
-        (w .painted) (look .at - w .painted) p (omega (arith, position-small (specsOf m) clk)))
+        (w .painted) (look .at - w .painted) p (omega (arith, position-small (specsOf (ourMachine m)) clk)))
 
     moved : SameScreen m (rendered (fromClocks m clk) s) c (caughtUp look (showsA (c .phase)) w)
     unfolding caughtUp

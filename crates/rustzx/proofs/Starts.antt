@@ -1,13 +1,11 @@
 -- The Rust's new controller, with the ROM that the host loads, and the world that a start leaves are related.
 -- Assumes nothing.
 use mathlib.Core.Path.{_≡_, refl, sym, ap, _∙_}
-use mathlib.Core.List.{List}
+use mathlib.Core.List.{List, map}
 use Prim.Native.Nat.{ℕ, _+_, _*_, _/_, _%_, _<_, _≤_}
 use native.Mathlib.Omega.{arith}
 use lib.ListN.{length, getD, drop, replicate, length-replicate, getD-replicate}
 use lib.Seq.{getD-take, getD-drop}
-use Rattle.machine.specs.declared.ZXMachine.{ZXMachine}
-use Rattle.machine.specs.declared.ZXMachine.the-variants.{Sinclair48K, Sinclair128K}
 use Rattle.machine.specs.Numbers.{specsOf}
 use Rattle.offsets.specs.Offset.{lineStart, offsetOf}
 use Rattle.screen.specs.Color.{attributeOf}
@@ -15,28 +13,29 @@ use Rattle.memory.specs.Paging.{memoryMap, shownPage}
 use Rattle.memory.specs.Memory.{ramPage}
 use Rattle.bus.specs.World.{clearRam, clearPicture, clearBorder, started}
 use Rattle.bus.proofs.Kept.{started-sound}
+use Rattle.rustzx.specs.Machine.{ZXMachine, Sinclair48K, Sinclair128K}
 use Rattle.rustzx.specs.Memory.{zeros, newMemory}
 use Rattle.rustzx.specs.Screen as screen
 use Rattle.rustzx.specs.Screen.{blackAttribute, newBank}
 use Rattle.rustzx.specs.Border as border
 use Rattle.rustzx.specs.Controller.{paged, firstBank, new, withRom}
-use Rattle.rustzx.specs.Related.{Mirrors, Mirrored, activeOf, SameBorder, pagingOpen, Related}
+use Rattle.rustzx.specs.Related.{ourMachine, ourPage, ourAttribute, Mirrors, Mirrored, activeOf, SameBorder, pagingOpen, Related}
 use Rattle.rustzx.proofs.Steps.{sound-in-step}
 
-zeros-clear : (m : ZXMachine) (n : ℕ) → n ≡ specsOf m .ram → zeros n ≡ clearRam m
+zeros-clear : (m : ZXMachine) (n : ℕ) → n ≡ specsOf (ourMachine m) .ram → zeros n ≡ clearRam (ourMachine m)
 unfolding zeros clearRam
 zeros-clear m n e = rw e
 
-ram-long : (m : ZXMachine) → length (clearRam m) ≡ specsOf m .ram
+ram-long : (m : ZXMachine) → length (clearRam (ourMachine m)) ≡ specsOf (ourMachine m) .ram
 unfolding clearRam
-ram-long m = length-replicate (specsOf m .ram) 0
+ram-long m = length-replicate (specsOf (ourMachine m) .ram) 0
 
 -- a byte of a clear page is 0
-blank : (m : ZXMachine) (p j : ℕ) → j < 16384 → 16384 * p + 16384 ≤ specsOf m .ram → getD (ramPage p (clearRam m)) j 0 ≡ 0
+blank : (m : ZXMachine) (p j : ℕ) → j < 16384 → 16384 * p + 16384 ≤ specsOf (ourMachine m) .ram → getD (ramPage p (clearRam (ourMachine m))) j 0 ≡ 0
 unfolding clearRam
 blank m p j h f =
-    getD-take 16384 (drop (16384 * p) (replicate (specsOf m .ram) 0)) j 0 h ∙ getD-drop (16384 * p) (replicate (specsOf m .ram) 0) j 0
-    ∙ getD-replicate (specsOf m .ram) (16384 * p + j) 0 0 (omega arith)
+    getD-take 16384 (drop (16384 * p) (replicate (specsOf (ourMachine m) .ram) 0)) j 0 h ∙ getD-drop (16384 * p) (replicate (specsOf (ourMachine m) .ram) 0) j 0
+    ∙ getD-replicate (specsOf (ourMachine m) .ram) (16384 * p + j) 0 0 (omega arith)
 
 offset-small : (k : ℕ) → k < 6144 → offsetOf k < 16384
 offset-small k h = by-parts (k / 32) (k % 32) (omega arith) (omega arith) where
@@ -50,12 +49,12 @@ blank-bank n k page p q f =
       bitmapLong = length-replicate k 0 ∙ q;
       attributesLong = length-replicate n blackAttribute ∙ p;
       bitmap = λ i h. getD-replicate k i 0 0 (omega arith) ∙ sym (f (offsetOf i) (offset-small i h));
-      attributes = λ j h. getD-replicate n j blackAttribute blackAttribute (omega arith) ∙ ap attributeOf (sym (f (0x1800 + j) (omega arith)));
+      attributes = λ j h. ap ourAttribute (getD-replicate n j blackAttribute blackAttribute (omega arith)) ∙ ap attributeOf (sym (f (0x1800 + j) (omega arith)));
     }
 
-new-mirrors : (m : ZXMachine) (p : ℕ) → 16384 * p + 16384 ≤ specsOf m .ram → Mirrors newBank (ramPage p (clearRam m))
+new-mirrors : (m : ZXMachine) (p : ℕ) → 16384 * p + 16384 ≤ specsOf (ourMachine m) .ram → Mirrors newBank (ramPage p (clearRam (ourMachine m)))
 unfolding newBank
-new-mirrors m p f = blank-bank 768 6144 (ramPage p (clearRam m)) refl refl (λ j h. blank m p j h f)
+new-mirrors m p f = blank-bank 768 6144 (ramPage p (clearRam (ourMachine m))) refl refl (λ j h. blank m p j h f)
 
 same-pictures : screen.newBuffer ≡ clearPicture
 unfolding screen.newBuffer clearPicture
@@ -65,17 +64,17 @@ same-borders : border.newBuffer ≡ clearBorder
 unfolding border.newBuffer clearBorder
 same-borders = refl
 
-new-border : SameBorder border.newBorder (started Sinclair48K .edge)
+new-border : SameBorder border.newBorder (started (ourMachine Sinclair48K) .edge)
 new-border = record { pixels = same-borders; beam = refl; colour = refl; blocked = refl; unchanged = λ e. refl }
 
 -- the start of either machine, from what only its own case decides
-start-by : (m : ZXMachine) (rom : List ℕ) → length rom ≡ specsOf m .rom → newMemory m .ram ≡ clearRam m → newMemory m .map ≡ memoryMap m 0
-    → 0 ≡ activeOf m 0 → paged m ≡ pagingOpen m 0 → firstBank m ≡ shownPage m 0 → Mirrored m newBank newBank (clearRam m)
-    → Related m rom (withRom rom (new m)) (started m)
-start-by m rom long ram map active enabled bank mirrored =
+start-by : (m : ZXMachine) (rom : List ℕ) → length rom ≡ specsOf (ourMachine m) .rom → newMemory m .ram ≡ clearRam (ourMachine m) → map ourPage (newMemory m .map) ≡ memoryMap (ourMachine m) 0
+    → 0 ≡ activeOf m 0 → paged m ≡ pagingOpen m 0 → firstBank m ≡ shownPage (ourMachine m) 0 → Mirrored m newBank newBank (clearRam (ourMachine m))
+    → Related m rom (withRom rom (new m)) (started (ourMachine m))
+start-by m rom long ram pages active enabled bank mirrored =
     record {
       machine = refl;
-      memory = rw (ram, map);
+      memory = record { rom = refl; ram = ram; pages = pages };
       screen = record {
         position = refl;
         columns = omega arith;
@@ -95,11 +94,11 @@ start-by m rom long ram map active enabled bank mirrored =
       port = refl;
       ramLong = ram-long m;
       romLong = long;
-      inStep = sound-in-step m (started m) (started-sound m);
+      inStep = sound-in-step (ourMachine m) (started (ourMachine m)) (started-sound (ourMachine m));
     }
 
 -- START.
-pub start-related : (m : ZXMachine) (rom : List ℕ) → length rom ≡ specsOf m .rom → Related m rom (withRom rom (new m)) (started m)
+pub start-related : (m : ZXMachine) (rom : List ℕ) → length rom ≡ specsOf (ourMachine m) .rom → Related m rom (withRom rom (new m)) (started (ourMachine m))
 start-related Sinclair48K rom long =
     start-by Sinclair48K rom long (zeros-clear Sinclair48K 49152 refl) refl refl refl refl (new-mirrors Sinclair48K 0 (omega arith))
 start-related Sinclair128K rom long =

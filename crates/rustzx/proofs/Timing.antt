@@ -2,39 +2,64 @@
 -- Assumes nothing.
 use mathlib.Core.Path.{_≡_, refl, sym, ap}
 use mathlib.Core.Bool.{Bool, true, false, cond, _||_}
+use mathlib.Core.List.{List}
 use Prim.Native.Nat.{ℕ, _+_, _-_, _*_, _/_, _%_, _<_}
 use native.Mathlib.Nat.{mod-eq-of-lt}
 use native.Mathlib.Omega.{arith}
 use lib.Dec.{ltb, leb, eqb}
+use lib.ListN.{getD}
 use lib.Bits.{and-mask}
 use borrow.Author.Tests.{ltb-true, ltb-false, le-leb, lt-leb}
-use Rattle.machine.specs.declared.ZXMachine.{ZXMachine}
-use Rattle.machine.specs.declared.ZXMachine.the-variants.{Sinclair48K, Sinclair128K}
 use Rattle.machine.specs.declared.BorderPlace.{BorderPlace}
 use Rattle.machine.specs.declared.BorderPlace.the-variants.{At, FrameEnd}
 use Rattle.machine.specs.declared.BlocksCount as ours
+use Rattle.machine.specs.declared.ZXSpecs as table
 use Rattle.machine.specs.Numbers.{specsOf}
-use Rattle.machine.specs.Timing.{held, delay, blocksIn, blocksFrom, blocksAt, borderIn, borderFrom, borderAt, interrupt}
+use Rattle.machine.specs.Timing.{pattern, held, delay, blocksIn, blocksFrom, blocksAt, borderIn, borderFrom, borderAt, interrupt}
 use Rattle.machine.specs.Contended.{bankContended, portContended}
-use Rattle.rustzx.specs.Machine.{specs, contentionClocks, portIsContended, bankIsContended}
+use Rattle.rustzx.specs.Machine.{ZXSpecs, ZXMachine, Sinclair48K, Sinclair128K, specs, contentionClocks, portIsContended, bankIsContended}
 use Rattle.rustzx.specs.Screen.{BlocksCount, inCanvas, inLine, fromClocks}
-use Rattle.rustzx.specs.Border.{Next, inHeight, inWidth, nextBorderPixel}
+use Rattle.rustzx.specs.Border.{Next, clocksOrigin, inHeight, inWidth, nextBorderPixel}
+use Rattle.rustzx.specs.Related.{ourMachine}
 
--- ---- the frame
-pub frame-is : (m : ZXMachine) → specs m .clocksFrame ≡ specsOf m .frame
-frame-is Sinclair48K = refl
-frame-is Sinclair128K = refl
+-- ---- the numbers
+-- What the theorems ask of a machine's numbers in the Rust and in document 01's table: each is proved once over these, and a machine is one line.
+pub record SameNumbers (s : ZXSpecs) (o : table.ZXSpecs) : Type 0 where
+  pub line : s .clocks .line ≡ o .line
+  pub frame : s .clocksFrame ≡ o .frame
+  pub contention : s .clocksFirstPixel - 1 ≡ o .contention
+  pub read : s .clocksUlaReadOrigin ≡ o .block
+  pub floating : s .clocksFirstPixel + 2 ≡ o .block
+  pub origin : clocksOrigin s ≡ o .border
+  pub screenLines : s .lines .screen ≡ 192
+  pub screenRow : s .clocks .screenRow ≡ 128
+  pub delays : s .contentionPattern ≡ pattern
+  pub pulse : s .interruptLength ≡ 32
+
+pub numbers : (m : ZXMachine) → SameNumbers (specs m) (specsOf (ourMachine m))
+numbers Sinclair48K = record { line = refl; frame = refl; contention = refl; read = refl; floating = refl; origin = refl; screenLines = refl; screenRow = refl; delays = refl; pulse = refl }
+numbers Sinclair128K = record { line = refl; frame = refl; contention = refl; read = refl; floating = refl; origin = refl; screenLines = refl; screenRow = refl; delays = refl; pulse = refl }
+
+pub frame-is : (m : ZXMachine) → specs m .clocksFrame ≡ specsOf (ourMachine m) .frame
+frame-is m = numbers m .frame
 
 -- ---- delay
 or-cond : {A : Type 0} (a b : Bool) (x y : A) → cond (a || b) x y ≡ cond a x (cond b x y)
 or-cond true b x y = refl
 or-cond false b x y = refl
 
+delay-by : (o : table.ZXSpecs) (t first lines line row : ℕ) (delays : List ℕ) → first ≡ o .contention → lines ≡ 192 → line ≡ o .line → row ≡ 128 → delays ≡ pattern
+    → cond (ltb t first || leb (first + lines * line) t) 0 (cond (leb row ((t - first) % line)) 0 (getD delays ((t - first) % line % 8) 0)) ≡ delay o t
+unfolding delay held
+delay-by o t first lines line row delays p q r s u = rw (p, q, r, s, u) (or-cond (ltb t (o .contention)) (leb (o .contention + 192 * o .line) t) 0 _)
+
 -- contention_clocks is the delay.
-pub contention-is : (m : ZXMachine) (t : ℕ) → contentionClocks m t ≡ delay (specsOf m) t
-unfolding contentionClocks delay held
-contention-is Sinclair48K t = or-cond (ltb t 14335) (leb 57343 t) 0 _
-contention-is Sinclair128K t = or-cond (ltb t 14361) (leb 58137 t) 0 _
+pub contention-is : (m : ZXMachine) (t : ℕ) → contentionClocks m t ≡ delay (specsOf (ourMachine m)) t
+unfolding contentionClocks
+contention-is m t =
+    let n = numbers m in
+    delay-by (specsOf (ourMachine m)) t (specs m .clocksFirstPixel - 1) (specs m .lines .screen) (specs m .clocks .line) (specs m .clocks .screenRow) (specs m .contentionPattern)
+    (n .contention) (n .screenLines) (n .line) (n .screenRow) (n .delays)
 
 -- ---- blocks
 pub record SameBlocks (b : BlocksCount) (c : ours.BlocksCount) : Type 0 where
@@ -53,13 +78,17 @@ in-line : (line column : ℕ) → SameBlocks (inLine line column) (blocksFrom li
 unfolding blocksFrom
 in-line line column = pick-blocks (ltb 32 column) (in-canvas (line + 1) 0) (in-canvas line column)
 
+blocks-by : (o : table.ZXSpecs) (t origin line : ℕ) → origin ≡ o .block → line ≡ o .line
+    → SameBlocks (cond (ltb t origin) (record { lines = 0; columns = 0 }) (inLine ((t - origin) / line) ((t - origin) % line / 4 + 1))) (blocksAt o t)
+unfolding blocksAt
+blocks-by o t origin line p q =
+    rw (p, q)
+    (pick-blocks (ltb t (o .block)) (record { lines = refl; columns = refl }) (in-line ((t - o .block) / o .line) ((t - o .block) % o .line / 4 + 1)))
+
 -- BlocksCount::from_clocks counts the same lines and the same columns.
-pub blocks-are : (m : ZXMachine) (t : ℕ) → SameBlocks (fromClocks m t) (blocksAt (specsOf m) t)
-unfolding fromClocks blocksAt
-blocks-are Sinclair48K t =
-    pick-blocks (ltb t 14338) (record { lines = refl; columns = refl }) (in-line ((t - 14338) / 224) ((t - 14338) % 224 / 4 + 1))
-blocks-are Sinclair128K t =
-    pick-blocks (ltb t 14364) (record { lines = refl; columns = refl }) (in-line ((t - 14364) / 228) ((t - 14364) % 228 / 4 + 1))
+pub blocks-are : (m : ZXMachine) (t : ℕ) → SameBlocks (fromClocks m t) (blocksAt (specsOf (ourMachine m)) t)
+unfolding fromClocks
+blocks-are m t = blocks-by (specsOf (ourMachine m)) t (specs m .clocksUlaReadOrigin) (specs m .clocks .line) (numbers m .read) (numbers m .line)
 
 -- ---- border
 -- a place of the border as the Rust answers it: the frame's end is (0, 0) with the flag set
@@ -87,26 +116,32 @@ in-width line r =
     rw (width-test r (ltb 320 (2 * (r + 1))) refl, e)
     (pick-next (ltb 320 (2 * (r + 1))) (borderIn (line + 1) 0) (borderIn line (2 * (r + 1))) (in-height (line + 1) 0) (in-height line (2 * (r + 1))))
 
+border-by : (o : table.ZXSpecs) (t origin line : ℕ) → origin ≡ o .border → line ≡ o .line
+    → cond (ltb t origin) (record { line = 0; pixel = 0; frameEnd = false }) (inWidth ((t - origin) / line) (((t - origin) % line + 1) * 2)) ≡ nextOf (borderAt o t)
+unfolding borderAt
+border-by o t origin line p q =
+    rw (p, q)
+    (pick-next (ltb t (o .border)) (At 0 0) (borderFrom ((t - o .border) / o .line) (2 * ((t - o .border) % o .line + 1))) refl
+    (in-width ((t - o .border) / o .line) ((t - o .border) % o .line)))
+
 -- next_border_pixel answers the place of the border.
-pub border-is : (m : ZXMachine) (t : ℕ) → nextBorderPixel m t ≡ nextOf (borderAt (specsOf m) t)
-unfolding nextBorderPixel borderAt
-border-is Sinclair48K t = pick-next (ltb t 8945) (At 0 0) (borderFrom ((t - 8945) / 224) (2 * ((t - 8945) % 224 + 1))) refl (in-width ((t - 8945) / 224) ((t - 8945) % 224))
-border-is Sinclair128K t = pick-next (ltb t 8875) (At 0 0) (borderFrom ((t - 8875) / 228) (2 * ((t - 8875) % 228 + 1))) refl (in-width ((t - 8875) / 228) ((t - 8875) % 228))
+pub border-is : (m : ZXMachine) (t : ℕ) → nextBorderPixel m t ≡ nextOf (borderAt (specsOf (ourMachine m)) t)
+unfolding nextBorderPixel
+border-is m t = border-by (specsOf (ourMachine m)) t (clocksOrigin (specs m)) (specs m .clocks .line) (numbers m .origin) (numbers m .line)
 
 -- ---- contended ports and pages
-pub port-is : (m : ZXMachine) (port : ℕ) → portIsContended m port ≡ portContended m port
+pub port-is : (m : ZXMachine) (port : ℕ) → portIsContended m port ≡ portContended (ourMachine m) port
 port-is m port = ap (λ (x : ℕ). eqb x 0) (and-mask port 1)
 
 or-false : (t : Bool) → t || false ≡ t
 or-false true = refl
 or-false false = refl
 
-pub bank-is : (m : ZXMachine) (page : ℕ) → bankIsContended m page ≡ bankContended m page
+pub bank-is : (m : ZXMachine) (page : ℕ) → bankIsContended m page ≡ bankContended (ourMachine m) page
 bank-is Sinclair48K page = sym (or-false (eqb page 0))
 bank-is Sinclair128K page = refl
 
 -- ---- interrupt: at every clock of the frame
-pub interrupt-is : (m : ZXMachine) (t : ℕ) → t < specsOf m .frame
+pub interrupt-is : (m : ZXMachine) (t : ℕ) → t < specsOf (ourMachine m) .frame
     → ltb (t % specs m .clocksFrame) (specs m .interruptLength) ≡ interrupt t
-interrupt-is Sinclair48K t h = ap (λ (x : ℕ). ltb x 32) (mod-eq-of-lt {n = t} {m = 69888} h)
-interrupt-is Sinclair128K t h = ap (λ (x : ℕ). ltb x 32) (mod-eq-of-lt {n = t} {m = 70908} h)
+interrupt-is m t h = rw (numbers m .frame, numbers m .pulse) (ap (λ (x : ℕ). ltb x 32) (mod-eq-of-lt {n = t} {m = specsOf (ourMachine m) .frame} h))

@@ -5,12 +5,9 @@ use mathlib.Core.Bool.{Bool, true, false, cond, not}
 use mathlib.Core.List.{List}
 use lib.Dec.{ltb, leb}
 use lib.ListN.{set, replicate}
-use Rattle.machine.specs.declared.ZXMachine.{ZXMachine}
-use Rattle.screen.specs.declared.ZXColor.{ZXColor}
-use Rattle.screen.specs.declared.ZXColor.the-variants.{White}
 use Rattle.rustzx.specs.Panics.{each}
-use Rattle.rustzx.specs.Machine.{specs}
-use Rattle.rustzx.specs.Colors.{colorByte}
+use Rattle.rustzx.specs.Machine.{ZXSpecs, ZXMachine, specs}
+use Rattle.rustzx.specs.Colors.{ZXColor, White, colorByte}
 
 abbrev pub screenWidth : ℕ
 screenWidth = 320
@@ -44,8 +41,8 @@ pub record Next : Type 0 where
   pub frameEnd : Bool
 
 -- clocks_first_pixel - 8 * BORDER_ROWS * clocks_line - BORDER_COLS * CLOCKS_PER_COL + clocks_ula_beam_shift
-abbrev pub clocksOrigin : ZXMachine → ℕ
-clocksOrigin m = specs m .clocksFirstPixel - 8 * 3 * specs m .clocks .line - 4 * 4 + specs m .clocksUlaBeamShift
+abbrev pub clocksOrigin : ZXSpecs → ℕ
+clocksOrigin s = s .clocksFirstPixel - 8 * 3 * s .clocks .line - 4 * 4 + s .clocksUlaBeamShift
 
 -- "if beam out of screen on vertical pos."
 abbrev pub inHeight : ℕ → ℕ → Next
@@ -57,8 +54,9 @@ inWidth line pixel = cond (leb screenWidth (pixel - 2)) (inHeight (line + 1) 0) 
 
 unfoldable pub nextBorderPixel : ZXMachine → ℕ → Next
 nextBorderPixel m clocks =
-    cond (ltb clocks (clocksOrigin m)) (record { line = 0; pixel = 0; frameEnd = false })
-    (inWidth ((clocks - clocksOrigin m) / specs m .clocks .line) (((clocks - clocksOrigin m) % specs m .clocks .line + 1) * 2))
+    let origin = clocksOrigin (specs m) in
+    cond (ltb clocks origin) (record { line = 0; pixel = 0; frameEnd = false })
+    (inWidth ((clocks - origin) / specs m .clocks .line) (((clocks - origin) % specs m .clocks .line + 1) * 2))
 
 -- fn fill_to: set_color(p % SCREEN_WIDTH, p / SCREEN_WIDTH, last.color, Normal)
 abbrev pub pixelIndex : ℕ → ℕ

@@ -2,26 +2,28 @@
 -- Assumes nothing.
 use Prim.Native.Nat.{ℕ, _+_, _<_, _≤_}
 use mathlib.Core.Path.{_≡_}
-use mathlib.Core.Bool.{Bool, true, cond}
+use mathlib.Core.Bool.{Bool, true, false, cond}
 use mathlib.Core.List.{List, [], _∷_}
 use lib.Dec.{leb}
 use lib.ListN.{length}
-use Rattle.machine.specs.declared.ZXMachine.{ZXMachine}
+use Rattle.machine.specs.declared.ZXMachine as ours
 use Rattle.machine.specs.Timing.{interrupt}
 use Rattle.record.specs.Record.{flagByte}
-use Rattle.memory.specs.Paging.{pageAt, pageExists}
+use Rattle.memory.specs.Paging as paging
+use Rattle.memory.specs.Paging.{pageAt, pageExists, pagedCode}
 use Rattle.memory.specs.Memory.{byteAt, ramPage, pagePart}
 use Rattle.ports.specs.declared.Devices.{Devices}
 use Rattle.bus.specs.World.{World}
 use Rattle.bus.specs.Time.{shownPicture}
 use Rattle.bus.specs.Turns.{Part, fresh, ranBy}
-use Rattle.bus.specs.Calls.{plainWait, addressWait, portRead, readValue, pagingWrite, portWrite}
+use Rattle.bus.specs.Calls.{plainWait, addressWait, portRead, readValue, pagingWrite, portWrite, writeCode}
 use Rattle.rustzx.specs.Panics.{Run, done, andThen}
-use Rattle.rustzx.specs.Machine.{specs}
+use Rattle.rustzx.specs.Machine.{ZXMachine, specs}
 use Rattle.rustzx.specs.Memory.{ramPageData, blockData}
 use Rattle.rustzx.specs.Screen.{blockIndex}
+use Rattle.rustzx.specs.Related.{attachedOf}
 use Rattle.rustzx.specs.Controller as rust
-use Rattle.rustzx.specs.Controller.{ZXController}
+use Rattle.rustzx.specs.Controller.{ZXController, Reached, Wrote}
 use Rattle.bus.specs.Pokes.{byteWrite, pageLoad, passedReset}
 
 -- the calls, each by its name in the Rust, with its arguments; `shownPicture` and `border` are the two `frame_buffer`s
@@ -44,7 +46,21 @@ pub data Call : Type 0 where
   screenBuffer : Call
   borderBuffer : Call
 
--- what a call answers, as bytes and numbers: none, one, a page's 16,384 or a picture's
+-- "with its code": "extender 1; C000h class 2; 8000h class 3; even port, border 4; .. paged 5 or locked 6; else 0", by whom the Rust reached
+abbrev pub reachedCode : Reached → ℕ
+reachedCode rust.toExtender = 1
+reachedCode rust.toAySelect = 2
+reachedCode rust.toAyWrite = 3
+reachedCode rust.toBorder = 4
+reachedCode (rust.toPaging true) = 5
+reachedCode (rust.toPaging false) = 6
+reachedCode rust.toNobody = 0
+
+-- "The 7FFD write answers 5, 6, or on 48K 0": 48K is the machine that ZXController::new starts with paging not enabled
+abbrev pub pagingCode : ZXMachine → Reached → ℕ
+pagingCode m who = cond (rust.paged m) (reachedCode who) 0
+
+-- what a call answers, as bytes and numbers: none, one, a page's 16,384 or a picture's; a write, the code of whom it reached
 pub record Given : Type 0 where
   pub controller : ZXController
   pub answer : List ℕ
@@ -56,6 +72,9 @@ gives c answer = record { controller = c; answer = answer }
 abbrev pub acted : Run ZXController → Run Given
 acted r = andThen r (λ c. done (gives c []))
 
+abbrev pub wrote : (Reached → ℕ) → Run Wrote → Run Given
+wrote code r = andThen r (λ w. done (gives (w .controller) (code (w .reached) ∷ [])))
+
 abbrev pub told : ZXController → Run (List ℕ) → Run Given
 told c r = andThen r (λ answer. done (gives c answer))
 
@@ -63,13 +82,13 @@ unfoldable pub performed : Call → ZXController → Run Given
 performed (waitInternal n) c = done (gives (rust.waitInternal n c) [])
 performed (waitMreq addr n) c = done (gives (rust.waitMreq addr n c) [])
 performed (waitNoMreq addr n) c = done (gives (rust.waitNoMreq addr n c) [])
-performed (readIo d port) c = andThen (rust.readIo d port c) (λ a. done (gives (a .controller) (a .value ∷ [])))
-performed (writeIo d port value) c = acted (rust.writeIo d port value c)
+performed (readIo d port) c = andThen (rust.readIo (attachedOf d) port c) (λ a. done (gives (a .controller) (a .value ∷ [])))
+performed (writeIo d port value) c = wrote reachedCode (rust.writeIo (attachedOf d) port value c)
 performed (readInternal addr) c = done (gives c (rust.readInternal addr c ∷ []))
 performed (writeInternal addr value) c = acted (rust.writeInternal addr value c)
-performed (write7ffd value) c = acted (rust.write7ffd value c)
+performed (write7ffd value) c = wrote (pagingCode (c .machine)) (rust.write7ffd value c)
 performed read7ffd c = done (gives c (c .currentPort7ffd ∷ []))
-performed intActive c = done (gives c (flagByte (rust.intActive c) ∷ []))
+performed intActive c = done (gives c (cond (rust.intActive c) 1 0 ∷ []))
 performed framesCount c = done (gives c (c .passedFrames ∷ []))
 performed resetFrameCounter c = done (gives (rust.resetFrameCounter c) [])
 performed (loadPage page bytes) c = acted (rust.loadAndRefresh page bytes c)
@@ -82,7 +101,7 @@ performed borderBuffer c = done (gives c (c .border .buffer))
 abbrev pub nothing : Part
 nothing c = []
 
-unfoldable pub partOf : ZXMachine → Call → Part
+unfoldable pub partOf : ours.ZXMachine → Call → Part
 partOf m (waitInternal n) = plainWait n
 partOf m (waitMreq addr n) = addressWait m addr n
 partOf m (waitNoMreq addr n) = addressWait m addr n
@@ -101,15 +120,15 @@ partOf m (blockOf block) = nothing
 partOf m screenBuffer = nothing
 partOf m borderBuffer = nothing
 
-unfoldable pub answerOf : ZXMachine → List ℕ → Call → World → List ℕ
+unfoldable pub answerOf : ours.ZXMachine → List ℕ → Call → World → List ℕ
 answerOf m rom (waitInternal n) w = []
 answerOf m rom (waitMreq addr n) w = []
 answerOf m rom (waitNoMreq addr n) w = []
 answerOf m rom (readIo d port) w = readValue m d port (w .core) ∷ []
-answerOf m rom (writeIo d port value) w = []
+answerOf m rom (writeIo d port value) w = writeCode m d port value (w .core) ∷ []
 answerOf m rom (readInternal addr) w = byteAt m (w .core .paging) rom (w .core .ram) addr ∷ []
 answerOf m rom (writeInternal addr value) w = []
-answerOf m rom (write7ffd value) w = []
+answerOf m rom (write7ffd value) w = pagedCode (paging.write7ffd m (w .core .paging) value) ∷ []
 answerOf m rom read7ffd w = w .core .paging ∷ []
 answerOf m rom intActive w = flagByte (interrupt (w .core .clock)) ∷ []
 answerOf m rom framesCount w = w .core .passed ∷ []
@@ -121,12 +140,12 @@ answerOf m rom screenBuffer w = shownPicture (w .core) (w .screen)
 answerOf m rom borderBuffer w = w .edge .pixels
 
 -- the world that a call leaves
-abbrev pub after : ZXMachine → Call → World → World
+abbrev pub after : ours.ZXMachine → Call → World → World
 after m k w = ranBy (partOf m k) (fresh m w) .world
 
 -- what the eight refusals leave of such a call: no wait above 65,535 clocks (5), passed frames below 4,294,967,295 for a timed call (6), a tape
 -- bit of 0 or 1 (4), a page that is there and 16,384 bytes for it (7, 2), a block of at most 3 (8); a byte is a byte
-abbrev pub Accepted : ZXMachine → Call → World → Type 0
+abbrev pub Accepted : ours.ZXMachine → Call → World → Type 0
 Accepted m (waitInternal n) w = (n ≤ 65535) × (w .core .passed < 4294967295)
 Accepted m (waitMreq addr n) w = (n ≤ 65535) × (w .core .passed < 4294967295)
 Accepted m (waitNoMreq addr n) w = (n ≤ 65535) × (w .core .passed < 4294967295)
@@ -156,15 +175,15 @@ allPerformed (k ∷ ks) c =
     andThen (performed k c) (λ g.
     andThen (allPerformed ks (g .controller)) (λ s. done (record { controller = s .controller; answers = g .answer ∷ s .answers })))
 
-unfoldable pub allAnswers : ZXMachine → List ℕ → List Call → World → List (List ℕ)
+unfoldable pub allAnswers : ours.ZXMachine → List ℕ → List Call → World → List (List ℕ)
 allAnswers m rom [] w = []
 allAnswers m rom (k ∷ ks) w = answerOf m rom k w ∷ allAnswers m rom ks (after m k w)
 
-unfoldable pub afterAll : ZXMachine → List Call → World → World
+unfoldable pub afterAll : ours.ZXMachine → List Call → World → World
 afterAll m [] w = w
 afterAll m (k ∷ ks) w = afterAll m ks (after m k w)
 
-abbrev pub AllAccepted : ZXMachine → List Call → World → Type 0
+abbrev pub AllAccepted : ours.ZXMachine → List Call → World → Type 0
 AllAccepted m [] w = Unit {0}
 AllAccepted m (k ∷ ks) w = Accepted m k w × AllAccepted m ks (after m k w)
 

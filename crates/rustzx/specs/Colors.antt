@@ -1,15 +1,31 @@
--- rustzx-core/src/zx/video/colors.rs. ZXColor, ZXBrightness and ZXAttribute are the enums and the struct of crate `screen`, variant by variant.
+-- rustzx-core/src/zx/video/colors.rs.
 -- Assumes nothing.
 use Prim.Native.Nat.{ℕ, zero, suc, _/_}
 use mathlib.Core.Bool.{Bool, cond, not, _&&_, xor}
 use lib.Dec.{leb, eqb}
 use lib.Bits.{bitAnd}
-use Rattle.screen.specs.declared.ZXColor.{ZXColor}
-use Rattle.screen.specs.declared.ZXColor.the-variants.{Black, Blue, Red, Purple, Green, Cyan, Yellow, White}
-use Rattle.screen.specs.declared.ZXBrightness.{ZXBrightness}
-use Rattle.screen.specs.declared.ZXBrightness.the-variants.{Normal, Bright}
-use Rattle.screen.specs.declared.ZXAttribute.{ZXAttribute}
 use Rattle.rustzx.specs.Panics.{Run, done, panics, andThen, assert}
+
+-- enum ZXColor, enum ZXBrightness, struct ZXAttribute
+pub data ZXColor : Type 0 where
+  Black : ZXColor
+  Blue : ZXColor
+  Red : ZXColor
+  Purple : ZXColor
+  Green : ZXColor
+  Cyan : ZXColor
+  Yellow : ZXColor
+  White : ZXColor
+
+pub data ZXBrightness : Type 0 where
+  Normal : ZXBrightness
+  Bright : ZXBrightness
+
+pub record ZXAttribute : Type 0 where
+  pub ink : ZXColor
+  pub paper : ZXColor
+  pub flash : Bool
+  pub brightness : ZXBrightness
 
 -- fn from_bits: assert!(bits <= 7), then a match whose last arm is unreachable!()
 abbrev pub matched : ℕ → Run ZXColor

@@ -7,26 +7,11 @@ use mathlib.Core.List.{List}
 use lib.Dec.{ltb, leb, eqb}
 use lib.ListN.{getD}
 use lib.Bits.{bitAnd, bitXor}
-use Rattle.machine.specs.declared.ZXMachine.{ZXMachine}
-use Rattle.machine.specs.declared.ZXMachine.the-variants.{Sinclair48K, Sinclair128K}
-use Rattle.screen.specs.declared.ZXColor.{ZXColor}
-use Rattle.screen.specs.declared.ZXColor.the-variants.{Black}
-use Rattle.memory.specs.declared.Page.{Page}
-use Rattle.memory.specs.declared.Page.the-variants.{Rom, Ram}
-use Rattle.ports.specs.declared.Devices.{Devices}
-use Rattle.ports.specs.declared.Extender.{Extender}
-use Rattle.ports.specs.declared.Extender.the-variants as extender
-use Rattle.ports.specs.declared.Ay.{Ay}
-use Rattle.ports.specs.declared.Ay.the-variants as ay
-use Rattle.ports.specs.declared.Joystick.{Joystick}
-use Rattle.ports.specs.declared.Joystick.the-variants as joystick
-use Rattle.ports.specs.declared.Mouse.{Mouse}
-use Rattle.ports.specs.declared.Mouse.the-variants as mouse
-use Rattle.rustzx.specs.Panics.{Run, done, andThen, each}
-use Rattle.rustzx.specs.Machine.{specs, contentionClocks, portIsContended, bankIsContended}
+use Rattle.rustzx.specs.Panics.{Run, done, Option, some, none, andThen, each}
+use Rattle.rustzx.specs.Machine.{ZXMachine, Sinclair48K, Sinclair128K, specs, contentionClocks, portIsContended, bankIsContended}
 use Rattle.rustzx.specs.Addresses.{canvasHeight, bitmapLineAddr}
-use Rattle.rustzx.specs.Colors.{fromBits}
-use Rattle.rustzx.specs.Memory.{ZXMemory, pageSize, newMemory, getPage, read, write, remap, ramPageData, loadPage}
+use Rattle.rustzx.specs.Colors.{ZXColor, Black, fromBits}
+use Rattle.rustzx.specs.Memory.{Page, Rom, Ram, ZXMemory, pageSize, newMemory, getPage, read, write, remap, ramPageData, loadPage}
 use Rattle.rustzx.specs.Screen as screen
 use Rattle.rustzx.specs.Screen.{ZXScreen, newScreen, switchBank, processClocks, update}
 use Rattle.rustzx.specs.Border as border
@@ -153,6 +138,23 @@ ioContentionLast port c =
     (doContention (doContentionAndWait 1 (doContentionAndWait 1 c)))
     (waitInternal 2 c))
 
+-- who a port write reached: the arm of write_io that ran, and of write_7ffd whether paging was enabled
+pub data Reached : Type 0 where
+  toExtender : Reached
+  toAySelect : Reached
+  toAyWrite : Reached
+  toBorder : Reached
+  toPaging : Bool → Reached
+  toNobody : Reached
+
+-- a write leaves a state, and who was reached stands beside it
+pub record Wrote : Type 0 where
+  pub controller : ZXController
+  pub reached : Reached
+
+abbrev pub reaches : Reached → ZXController → Wrote
+reaches who c = record { controller = c; reached = who }
+
 -- fn write_7ffd
 abbrev pub newScreenBank : ℕ → ℕ
 newScreenBank val = cond (eqb (bitAnd val 0x08) 0) 5 7
@@ -165,11 +167,11 @@ remapped val mem = andThen (remap mem 3 (Ram (bitAnd val 0x07))) (λ top. remap 
 abbrev pub stillEnabled : ℕ → Bool → Bool
 stillEnabled val enabled = cond (not (eqb (bitAnd val 0x20) 0)) false enabled
 
-unfoldable pub write7ffd : ℕ → ZXController → Run ZXController
+unfoldable pub write7ffd : ℕ → ZXController → Run Wrote
 write7ffd val c =
-    cond (not (c .pagingEnabled)) (done c)
+    cond (not (c .pagingEnabled)) (done (reaches (toPaging false) c))
     (andThen (remapped val (c .memory)) (λ mem.
-    done (withPaging mem (switchBank (c .machine) (newScreenBank val) (c .screen)) (stillEnabled val (c .pagingEnabled)) (newScreenBank val) val c)))
+    done (reaches (toPaging true) (withPaging mem (switchBank (c .machine) (newScreenBank val) (c .screen)) (stillEnabled val (c .pagingEnabled)) (newScreenBank val) val c))))
 
 -- fn set_border_color
 abbrev pub setBorderColor : ℕ → ZXColor → ZXController → ZXController
@@ -194,70 +196,88 @@ waitMreq addr clk c = waitInternal clk (contendedFirst addr c)
 abbrev pub waitNoMreq : ℕ → ℕ → ZXController → ZXController
 waitNoMreq addr clk c = waitMreq addr clk c
 
+-- what read_io finds attached: the three keyboards, the tape's current bit, and what may be there, by what it gives: an extender that extends the
+-- port, an AY (the feature `ay`), a kempston, a mouse
+pub record Mouse : Type 0 where
+  pub buttonsPort : ℕ
+  pub xPosPort : ℕ
+  pub yPosPort : ℕ
+
+pub record Attached : Type 0 where
+  pub keyboard : List ℕ
+  pub keyboardExtended : List ℕ
+  pub keyboardSinclair : List ℕ
+  pub currentBit : Bool
+  pub ioExtender : Option ℕ
+  pub ay : Option ℕ
+  pub kempston : Option ℕ
+  pub mouse : Option Mouse
+
 -- fn read_io: the row's bit of the port's high byte, ((h >> n) & 0x01) == 0
-abbrev pub keyboardByte : Devices → ℕ → ℕ
-keyboardByte d n = bitAnd (bitAnd (getD (d .rows) n 0) (getD (d .rows) (n + 8) 0)) (getD (d .rows) (n + 16) 0)
+abbrev pub keyboardByte : Attached → ℕ → ℕ
+keyboardByte a n = bitAnd (bitAnd (getD (a .keyboard) n 0) (getD (a .keyboardExtended) n 0)) (getD (a .keyboardSinclair) n 0)
 
-abbrev pub rowRead : Devices → ℕ → ℕ → ℕ → ℕ
-rowRead d h n tmp = cond (eqb (bitAnd (h / 2 ^ n) 0x01) 0) (bitAnd tmp (keyboardByte d n)) tmp
+abbrev pub rowRead : Attached → ℕ → ℕ → ℕ → ℕ
+rowRead a h n tmp = cond (eqb (bitAnd (h / 2 ^ n) 0x01) 0) (bitAnd tmp (keyboardByte a n)) tmp
 
-abbrev pub ulaRead : Devices → ℕ → ℕ
-ulaRead d port =
-    let tmp = each 0 8 (rowRead d (port / 256)) 0xFF in
-    cond (not (eqb (d .tape) 1)) (bitXor tmp 0x40) tmp
+abbrev pub ulaRead : Attached → ℕ → ℕ
+ulaRead a port =
+    let tmp = each 0 8 (rowRead a (port / 256)) 0xFF in
+    cond (not (a .currentBit)) (bitXor tmp 0x40) tmp
 
 -- kempston, read_ay_port, mouse, io_extender: in the Rust's order, from its end to its start
-abbrev pub joystickRead : Joystick → ℕ → ZXController → Run ℕ
-joystickRead joystick.Absent port c = floatingBusValue c
-joystickRead (joystick.Present byte) port c = cond (eqb (bitAnd port 0x00E0) 0) (done byte) (floatingBusValue c)
+abbrev pub kempstonRead : Option ℕ → ℕ → ZXController → Run ℕ
+kempstonRead none port c = floatingBusValue c
+kempstonRead (some byte) port c = cond (eqb (bitAnd port 0x00E0) 0) (done byte) (floatingBusValue c)
 
-abbrev pub ayRead : Ay → ZXController → Run ℕ
-ayRead ay.Absent c = floatingBusValue c
-ayRead (ay.Present byte) c = done byte
+abbrev pub ayRead : Option ℕ → ZXController → Run ℕ
+ayRead none c = floatingBusValue c
+ayRead (some byte) c = done byte
 
-abbrev pub afterMouse : Devices → ℕ → ZXController → Run ℕ
-afterMouse d port c = cond (eqb (bitAnd port 0xC002) 0xC000) (ayRead (d .ay) c) (joystickRead (d .joystick) port c)
+abbrev pub afterMouse : Attached → ℕ → ZXController → Run ℕ
+afterMouse a port c = cond (eqb (bitAnd port 0xC002) 0xC000) (ayRead (a .ay) c) (kempstonRead (a .kempston) port c)
 
-abbrev pub mouseRead : Mouse → Devices → ℕ → ZXController → Run ℕ
-mouseRead mouse.Absent d port c = afterMouse d port c
-mouseRead (mouse.Present ports) d port c =
-    cond (eqb (bitAnd port 0x0121) 0x0001) (done (ports .buttons))
-    (cond (eqb (bitAnd port 0x0521) 0x0101) (done (ports .x))
-    (cond (eqb (bitAnd port 0x0521) 0x0501) (done (ports .y)) (afterMouse d port c)))
+abbrev pub mouseRead : Option Mouse → Attached → ℕ → ZXController → Run ℕ
+mouseRead none a port c = afterMouse a port c
+mouseRead (some mouse) a port c =
+    cond (eqb (bitAnd port 0x0121) 0x0001) (done (mouse .buttonsPort))
+    (cond (eqb (bitAnd port 0x0521) 0x0101) (done (mouse .xPosPort))
+    (cond (eqb (bitAnd port 0x0521) 0x0501) (done (mouse .yPosPort)) (afterMouse a port c)))
 
-abbrev pub extenderRead : Extender → Devices → ℕ → ZXController → Run ℕ
-extenderRead (extender.Present byte) d port c = done byte
-extenderRead extender.Absent d port c = cond (eqb (bitAnd port 0x0001) 0) (done (ulaRead d port)) (mouseRead (d .mouse) d port c)
+abbrev pub extenderRead : Option ℕ → Attached → ℕ → ZXController → Run ℕ
+extenderRead (some byte) a port c = done byte
+extenderRead none a port c = cond (eqb (bitAnd port 0x0001) 0) (done (ulaRead a port)) (mouseRead (a .mouse) a port c)
 
 -- a call that answers a byte
 pub record Answered : Type 0 where
   pub controller : ZXController
   pub value : ℕ
 
-unfoldable pub readIo : Devices → ℕ → ZXController → Run Answered
-readIo d port c =
+unfoldable pub readIo : Attached → ℕ → ZXController → Run Answered
+readIo a port c =
     let held = ioContentionLast port (ioContentionFirst port c) in
-    andThen (extenderRead (d .extender) d port held) (λ value. done (record { controller = waitInternal 1 held; value = value }))
+    andThen (extenderRead (a .ioExtender) a port held) (λ value. done (record { controller = waitInternal 1 held; value = value }))
 
 -- fn write_io
 abbrev pub is128K : ZXMachine → Bool
 is128K Sinclair48K = false
 is128K Sinclair128K = true
 
-abbrev pub borderOrPaging : ℕ → ℕ → ZXController → Run ZXController
-borderOrPaging port byte c =
-    cond (eqb (bitAnd port 0xC002) 0xC000) (done c)
-    (cond (eqb (bitAnd port 0xC002) 0x8000) (done c)
-    (cond (eqb (bitAnd port 0x0001) 0) (andThen (fromBits (bitAnd byte 0x07)) (λ color. done (setBorderColor (c .frameClocks) color c)))
-    (cond (eqb (bitAnd port 0x8002) 0 && is128K (c .machine)) (write7ffd byte c) (done c))))
+abbrev pub portWrite : ℕ → ℕ → ZXController → Run Wrote
+portWrite port byte c =
+    cond (eqb (bitAnd port 0xC002) 0xC000) (done (reaches toAySelect c))
+    (cond (eqb (bitAnd port 0xC002) 0x8000) (done (reaches toAyWrite c))
+    (cond (eqb (bitAnd port 0x0001) 0) (andThen (fromBits (bitAnd byte 0x07)) (λ color. done (reaches toBorder (setBorderColor (c .frameClocks) color c))))
+    (cond (eqb (bitAnd port 0x8002) 0 && is128K (c .machine)) (write7ffd byte c) (done (reaches toNobody c)))))
 
-abbrev pub extenderWrite : Extender → ℕ → ℕ → ZXController → Run ZXController
-extenderWrite (extender.Present own) port byte c = done c
-extenderWrite extender.Absent port byte c = borderOrPaging port byte c
+abbrev pub extenderWrite : Option ℕ → ℕ → ℕ → ZXController → Run Wrote
+extenderWrite (some own) port byte c = done (reaches toExtender c)
+extenderWrite none port byte c = portWrite port byte c
 
-unfoldable pub writeIo : Devices → ℕ → ℕ → ZXController → Run ZXController
-writeIo d port byte c =
-    andThen (extenderWrite (d .extender) port byte (ioContentionFirst port c)) (λ acted. done (waitInternal 1 (ioContentionLast port acted)))
+unfoldable pub writeIo : Attached → ℕ → ℕ → ZXController → Run Wrote
+writeIo a port byte c =
+    andThen (extenderWrite (a .ioExtender) port byte (ioContentionFirst port c))
+    (λ acted. done (reaches (acted .reached) (waitInternal 1 (ioContentionLast port (acted .controller)))))
 
 -- fn int_active
 abbrev pub intActive : ZXController → Bool

@@ -1,14 +1,11 @@
 -- rustzx-core/src/zx/machine/specs.rs and mod.rs.
 -- Assumes nothing.
 use Prim.Native.Nat.{ℕ, _+_, _-_, _*_, _%_}
-use mathlib.Core.Bool.{Bool, cond, _||_}
+use mathlib.Core.Bool.{Bool, false, cond, _||_}
 use mathlib.Core.List.{List, [], _∷_}
 use lib.Dec.{ltb, leb, eqb}
 use lib.ListN.{getD}
 use lib.Bits.{bitAnd}
-use Rattle.machine.specs.declared.ZXMachine.{ZXMachine}
-use Rattle.machine.specs.declared.ZXMachine.the-variants.{Sinclair48K, Sinclair128K}
-use Rattle.machine.specs.Contended.{among}
 
 -- struct ZXSpecs; the two builder methods that set several fields at once each have a record of their own
 pub record ClocksRow : Type 0 where
@@ -79,6 +76,11 @@ specs48K = build 3500000 14336 2 1 (clocksRow 24 128 24 48) (linesOf 48 192 48 2
 abbrev pub specs128K : ZXSpecs
 specs128K = build 3546900 14362 2 1 (clocksRow 24 128 24 52) (linesOf 48 192 48 23) pattern 1 32 2
 
+-- enum ZXMachine
+pub data ZXMachine : Type 0 where
+  Sinclair48K : ZXMachine
+  Sinclair128K : ZXMachine
+
 -- fn specs
 abbrev pub specs : ZXMachine → ZXSpecs
 specs Sinclair48K = specs48K
@@ -98,7 +100,11 @@ contentionClocks m clocks =
 abbrev pub portIsContended : ZXMachine → ℕ → Bool
 portIsContended m port = eqb (bitAnd port 0x0001) 0
 
--- fn bank_is_contended
+-- fn bank_is_contended; iter().any
+abbrev pub any : {A : Type 0} → (A → Bool) → List A → Bool
+any f [] = false
+any f (x ∷ xs) = f x || any f xs
+
 abbrev pub bankIsContended : ZXMachine → ℕ → Bool
 bankIsContended Sinclair48K page = eqb page 0
-bankIsContended Sinclair128K page = among page (1 ∷ 3 ∷ 5 ∷ 7 ∷ [])
+bankIsContended Sinclair128K page = any (eqb page) (1 ∷ 3 ∷ 5 ∷ 7 ∷ [])

@@ -5,14 +5,16 @@ use mathlib.Core.Bool.{cond}
 use mathlib.Core.List.{List, [], _∷_, _++_}
 use lib.Dec.{ltb}
 use lib.ListN.{length, getD, set, take, drop, replicate}
-use Rattle.machine.specs.declared.ZXMachine.{ZXMachine}
-use Rattle.machine.specs.declared.ZXMachine.the-variants.{Sinclair48K, Sinclair128K}
-use Rattle.memory.specs.declared.Page.{Page}
-use Rattle.memory.specs.declared.Page.the-variants.{Rom, Ram}
 use Rattle.rustzx.specs.Panics.{Run, done, panics, assert, andThen}
+use Rattle.rustzx.specs.Machine.{ZXMachine, Sinclair48K, Sinclair128K}
 
 abbrev pub pageSize : ℕ
 pageSize = 16384
+
+-- enum Page
+pub data Page : Type 0 where
+  Rom : ℕ → Page
+  Ram : ℕ → Page
 
 pub record ZXMemory : Type 0 where
   pub rom : List ℕ

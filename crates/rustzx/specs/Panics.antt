@@ -1,4 +1,4 @@
--- A run of the Rust ends with a value or panics; an `assert!` that fails panics.
+-- The Rust's own language: a run ends with a value or panics, and an `assert!` that fails panics; an option; a loop.
 -- Assumes nothing.
 use mathlib.Core.Path.{_≡_}
 use mathlib.Core.Bool.{Bool, true, false}
@@ -7,6 +7,11 @@ use Prim.Native.Nat.{ℕ, zero, suc}
 pub data Run (A : Type 0) : Type 0 where
   done : A → Run A
   panics : Run A
+
+-- enum Option
+pub data Option (A : Type 0) : Type 0 where
+  some : A → Option A
+  none : Option A
 
 -- one statement and then the next
 abbrev pub andThen : {A B : Type 0} → Run A → (A → Run B) → Run B

@@ -7,17 +7,10 @@ use mathlib.Core.List.{List}
 use lib.Dec.{ltb, leb, eqb}
 use lib.ListN.{getD, set, replicate}
 use lib.Bits.{bitAnd}
-use Rattle.machine.specs.declared.ZXMachine.{ZXMachine}
-use Rattle.machine.specs.declared.ZXMachine.the-variants.{Sinclair48K, Sinclair128K}
-use Rattle.screen.specs.declared.ZXColor.{ZXColor}
-use Rattle.screen.specs.declared.ZXColor.the-variants.{Black}
-use Rattle.screen.specs.declared.ZXBrightness.{ZXBrightness}
-use Rattle.screen.specs.declared.ZXBrightness.the-variants.{Normal}
-use Rattle.screen.specs.declared.ZXAttribute.{ZXAttribute}
-use Rattle.rustzx.specs.Panics.{Run, done, andThen, each}
-use Rattle.rustzx.specs.Machine.{specs}
+use Rattle.rustzx.specs.Panics.{Run, done, Option, some, none, andThen, each}
+use Rattle.rustzx.specs.Machine.{ZXMachine, Sinclair48K, Sinclair128K, specs}
 use Rattle.rustzx.specs.Addresses.{canvasHeight, attrCols, bitmapLineRel, bitmapColRel, attrRowRel, attrColRel}
-use Rattle.rustzx.specs.Colors.{colorByte, brightnessByte, fromByte, activeColor}
+use Rattle.rustzx.specs.Colors.{ZXColor, Black, ZXBrightness, Normal, ZXAttribute, colorByte, brightnessByte, fromByte, activeColor}
 
 -- struct BlocksCount
 pub record BlocksCount : Type 0 where
@@ -82,12 +75,8 @@ newScreen =
       activeBank = 0;
     }
 
--- fn local_bank, as the bank to use or none
-pub data LocalBank : Type 0 where
-  some : ℕ → LocalBank
-  none : LocalBank
-
-abbrev pub localBank : ZXMachine → ℕ → LocalBank
+-- fn local_bank
+abbrev pub localBank : ZXMachine → ℕ → Option ℕ
 localBank Sinclair48K bank = cond (eqb bank 0) (some 0) none
 localBank Sinclair128K bank = cond (eqb bank 5) (some 0) (cond (eqb bank 7) (some 1) none)
 
@@ -96,7 +85,7 @@ abbrev pub withActive : ℕ → ZXScreen → ZXScreen
 withActive bank s =
     record { lastBlocks = s .lastBlocks; flash = s .flash; frameCounter = s .frameCounter; buffer = s .buffer; backBuffer = s .backBuffer; bank0 = s .bank0; bank1 = s .bank1; activeBank = bank }
 
-abbrev pub switchTo : LocalBank → ZXScreen → ZXScreen
+abbrev pub switchTo : Option ℕ → ZXScreen → ZXScreen
 switchTo (some bank) s = withActive bank s
 switchTo none s = s
 
@@ -189,7 +178,7 @@ updateAttribute bank rel byte s =
     andThen (attrRowRel rel) (λ row. andThen (attrColRel rel) (λ col. andThen (fromByte byte) (λ a.
     done (withBank bank (putAttribute (row * attrCols + col) a) s))))
 
-abbrev pub updateIn : LocalBank → ℕ → ℕ → ZXScreen → Run ZXScreen
+abbrev pub updateIn : Option ℕ → ℕ → ℕ → ZXScreen → Run ZXScreen
 updateIn none rel byte s = done s
 updateIn (some bank) rel byte s =
     cond (leb rel 0x17FF) (updateBitmap bank rel byte s) (cond (leb rel 0x1AFF) (updateAttribute bank rel byte s) (done s))

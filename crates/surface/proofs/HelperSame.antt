@@ -1,15 +1,15 @@
 -- The helpers of the C surface are the Rust's, and refusal 8 stands exactly where the Rust panics; and every sound record has a state of the Rust.
 -- Assumes nothing.
 use Prim.Native.Nat.{ℕ}
-use mathlib.Core.Path.{_≡_, refl, ap}
+use mathlib.Core.Path.{_≡_, refl, ap, subst}
 use mathlib.Core.List.{List}
 use lib.ListN.{length}
 use borrow.Author.Tests.{eq-eqb}
+use Rattle.machine.specs.declared.ZXMachine as ours
 use Rattle.machine.specs.Numbers.{specsOf}
 use Rattle.record.specs.declared.Bus.{Bus}
 use Rattle.record.specs.declared.Held.the-variants as held
 use Rattle.record.specs.Record.{heldBy}
-use Rattle.record.specs.Sound.{Sound}
 use Rattle.record.proofs.Soundness.{sound-facts}
 use Rattle.record.proofs.Round.{held-sound}
 use Rattle.screen.specs.declared.Helped.{Helped}
@@ -18,15 +18,17 @@ use Rattle.screen.specs.declared.Colored.{Colored}
 use Rattle.screen.specs.declared.Colored.the-variants as colored
 use Rattle.screen.specs.Address.{lineAddress, lineAt, columnAt, attributeRow, attributeColumn}
 use Rattle.screen.specs.Color as color
+use Rattle.bus.proofs.Kept.{SoundWorld}
 use Rattle.contracts.specs.Timed.{Lent, lentWorld}
 use Rattle.contracts.specs.Helpers as ulb
 use Rattle.contracts.specs.Helpers.{helperCall, colorHelped}
 use Rattle.rustzx.specs.Panics.{done, andThen}
 use Rattle.rustzx.specs.Addresses as rust
 use Rattle.rustzx.specs.Colors.{fromBits, colorByte}
+use Rattle.rustzx.specs.Controller.{ZXController}
 use Rattle.rustzx.specs.Related.{Related}
-use Rattle.rustzx.proofs.Helpers.{asRun, line-address-is, line-rel-is, col-rel-is, attr-row-is, attr-col-is, coloredRun, from-bits-is, color-byte-is}
-use Rattle.rustzx.proofs.EveryState.{rustOf, every-state}
+use Rattle.rustzx.proofs.Helpers.{asRun, line-address-is, line-rel-is, col-rel-is, attr-row-is, attr-col-is, coloredRun, from-bits-is, color-number}
+use Rattle.rustzx.proofs.EveryState.{rustOf, every-machine, every-state}
 use Rattle.surface.specs.Same.{SameLent, SameHelp}
 
 helped-same : (h : Helped) (answer : List ℕ) → length answer ≡ 5 → SameHelp (asRun h) (helperCall h answer)
@@ -51,7 +53,7 @@ module _ (n : ℕ) (answer : List ℕ) (long : length answer ≡ 5) where
   attr-col-same = rw (attr-col-is n) (helped-same (attributeColumn n) answer long)
 
   by-colored : (c : Colored) → andThen (coloredRun c) (λ x. done (colorByte x)) ≡ asRun (colorHelped c)
-  by-colored (colored.Color c) = ap done (color-byte-is c)
+  by-colored (colored.Color c) = ap done (color-number c)
   by-colored colored.OutOfRange = refl
 
   -- from_bits, its colour by its number
@@ -59,12 +61,11 @@ module _ (n : ℕ) (answer : List ℕ) (long : length answer ≡ 5) where
   from-bits-same = rw (from-bits-is n, by-colored (color.fromBits n)) (helped-same (colorHelped (color.fromBits n)) answer long)
 
 -- EVERY ACCEPTED CALL HAS A STATE OF THE RUST TO BE COMPARED WITH: the slices of any sound record, with RAM and ROM of the machine's lengths.
-pub some-state : (bus : Bus) (l : Lent) (rom : List ℕ) → Sound bus → length (l .ram) ≡ specsOf (bus .machine) .ram → length rom ≡ specsOf (bus .machine) .rom
-    → Related (bus .machine) rom (rustOf (bus .machine) rom (lentWorld bus l)) (lentWorld bus l)
-some-state bus l rom s ram-long rom-long = every-state (bus .machine) rom (lentWorld bus l) s ram-long rom-long
-
--- So are the slices themselves, lent as they should be: what is said of slices that hold the Rust's machine is said of all of these.
 pub some-lent : (bus : Bus) (l : Lent) (rom : List ℕ) → heldBy (l .state) ≡ held.Sound bus → length (l .ram) ≡ specsOf (bus .machine) .ram
-    → length rom ≡ specsOf (bus .machine) .rom → SameLent rom (rustOf (bus .machine) rom (lentWorld bus l)) l
+    → length rom ≡ specsOf (bus .machine) .rom → (c : ZXController) × SameLent rom c l
 some-lent bus l rom h ram-long rom-long =
-    record { bus = bus; isHeld = h; related = some-state bus l rom (sound-facts bus (held-sound (l .state) bus h)) ram-long rom-long }
+    let w = lentWorld bus l in
+    let it = every-machine (bus .machine) in
+    let r = subst (λ (n : ours.ZXMachine). SoundWorld n w → length (l .ram) ≡ specsOf n .ram → length rom ≡ specsOf n .rom → Related (it .0) rom (rustOf (it .0) rom w) w)
+    (it .1) (every-state (it .0) rom w) (sound-facts bus (held-sound (l .state) bus h)) ram-long rom-long in
+    (rustOf (it .0) rom w, record { bus = bus; isHeld = h; machine = it .1; related = r })

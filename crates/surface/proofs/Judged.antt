@@ -59,18 +59,30 @@ module _ (rom : List ℕ) (c : ZXController) (l : Lent) (s : SameLent rom c l) w
   pub decodes : recordOf (l .state) ≡ bus
   decodes = held-decode (l .state) bus (s .isHeld) .2
 
+  pub ram-is : length (l .ram) ≡ specsOf m .ram
+  ram-is = s .related .ramLong ∙ ap (λ (n : ZXMachine). specsOf n .ram) (s .machine)
+
+  rom-is : length rom ≡ specsOf m .rom
+  rom-is = s .related .romLong ∙ ap (λ (n : ZXMachine). specsOf n .rom) (s .machine)
+
   pub rom-long : length rom ≡ specsOf (recordOf (l .state) .machine) .rom
-  rom-long = s .related .romLong ∙ ap (λ (x : Bus). specsOf (x .machine) .rom) (sym decodes)
+  rom-long = rom-is ∙ ap (λ (x : Bus). specsOf (x .machine) .rom) (sym decodes)
 
   -- the same slices, by the record that their bytes stand for
   abbrev pub settled : SameLent rom c l
-  settled = record { bus = recordOf (l .state); isHeld = rw decodes (s .isHeld); related = subst (λ (b : Bus). Related (b .machine) rom c (lentWorld b l)) (sym decodes) (s .related) }
+  settled =
+      record {
+        bus = recordOf (l .state);
+        isHeld = rw decodes (s .isHeld);
+        machine = s .machine ∙ ap (λ (b : Bus). b .machine) (sym decodes);
+        related = subst (λ (b : Bus). Related (c .machine) rom c (lentWorld b l)) (sym decodes) (s .related);
+      }
 
   ram-fits : ramFits bus (length (l .ram)) ≡ true
-  ram-fits = eq-eqb (length (l .ram)) (specsOf m .ram) (s .related .ramLong)
+  ram-fits = eq-eqb (length (l .ram)) (specsOf m .ram) ram-is
 
   rom-fits : romFits bus (length rom) ≡ true
-  rom-fits = eq-eqb (length rom) (specsOf m .rom) (s .related .romLong)
+  rom-fits = eq-eqb (length rom) (specsOf m .rom) rom-is
 
   pub load-judged : (bytes number : ℕ) → bytes ≡ 16384
       → judgeLoad (l .state) (length (l .ram)) bytes number ≡ cond (pageExists m number) (Accepted bus) (Refused BadPage)

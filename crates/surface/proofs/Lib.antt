@@ -1,6 +1,7 @@
 pub mod StartSame
 pub mod TimedSame
 pub mod PlainSame
+pub mod OnMachine
 pub mod Judged
 pub mod PartSame
 pub mod PanicSame

@@ -21,13 +21,13 @@ use Rattle.answers.specs.Judges.{judgeLoad, judgeRamPageTold, judgeBlockTold}
 use Rattle.contracts.specs.Timed.{Lent, lentWorld}
 use Rattle.contracts.specs.Plain as ulb
 use Rattle.rustzx.specs.Panics.{panics}
-use Rattle.rustzx.specs.Memory.{ZXMemory}
 use Rattle.rustzx.specs.Controller.{ZXController, loadAndRefresh}
+use Rattle.rustzx.specs.Related.{ourMachine}
 use Rattle.rustzx.specs.Calls as rust
 use Rattle.rustzx.specs.Calls.{Call, performed}
 use Rattle.rustzx.proofs.Pages.{bank-type-is, page-data-is, load-is}
-use Rattle.rustzx.proofs.Demand.{call-agrees}
 use Rattle.surface.specs.Same.{SameLent, SameRefusal}
+use Rattle.surface.proofs.OnMachine.{agrees}
 use Rattle.surface.proofs.Judged.{told-code, changed-code, sound, load-judged, ram-page-told-judged, block-told-judged}
 
 module _ (rom : List ℕ) (c : ZXController) (l : Lent) (s : SameLent rom c l) where
@@ -41,25 +41,28 @@ module _ (rom : List ℕ) (c : ZXController) (l : Lent) (s : SameLent rom c l) w
   w = lentWorld bus l
 
   -- the Rust by its own tests
-  ram-long : length (c .memory .ram) ≡ specsOf m .ram
-  ram-long = ap (λ (x : ZXMemory). length (x .ram)) (s .related .memory) ∙ s .related .ramLong
+  ram-long : length (c .memory .ram) ≡ specsOf (ourMachine (c .machine)) .ram
+  ram-long = ap length (s .related .memory .ram) ∙ s .related .ramLong
+
+  own-pages : (number : ℕ) → pageExists m number ≡ false → pageExists (ourMachine (c .machine)) number ≡ false
+  own-pages number e = ap (λ (n : ZXMachine). pageExists n number) (s .machine) ∙ e
 
   load-panics : (number : ℕ) (bytes : List ℕ) → pageExists m number ≡ false → performed (rust.loadPage number bytes) c ≡ panics
   unfolding performed loadAndRefresh
-  load-panics number bytes e = rw (rw e at (load-is m (c .memory) ram-long number bytes))
+  load-panics number bytes e = rw (rw (own-pages number e) at (load-is (c .machine) (c .memory) ram-long number bytes))
 
   page-panics : (number : ℕ) → pageExists m number ≡ false → performed (rust.ramPageOf number) c ≡ panics
   unfolding performed
-  page-panics number e = rw (rw e at (page-data-is m (c .memory) ram-long number))
+  page-panics number e = rw (rw (own-pages number e) at (page-data-is (c .machine) (c .memory) ram-long number))
 
   block-panics : (block : ℕ) → leb block 3 ≡ false → performed (rust.blockOf block) c ≡ panics
   unfolding performed
-  block-panics block e = rw (s .related .memory, rw e at (bank-type-is m rom (w .core) block))
+  block-panics block e = rw (rw e at (bank-type-is (c .memory) block))
 
   -- a call whose number alone decides, beside the Rust's
   by-number : (k : Call) (e : Refusal) (good : Bool) (v : Verdict) → v ≡ cond good (Accepted bus) (Refused e) → (good ≡ true → rust.Accepted m k w)
       → (good ≡ false → performed k c ≡ panics) → SameRefusal (refusalNumber e) (performed k c) (ulb.codeOf v)
-  by-number k e true v p ok fails = rw (p, call-agrees m rom c w (s .related) k (sound rom c l s) (ok refl) .ends) refl
+  by-number k e true v p ok fails = rw (p, agrees m rom c w (s .machine) (s .related) k (sound rom c l s) (ok refl) .ends) refl
   by-number k e false v p ok fails = rw (p, fails refl) refl
 
   -- ULB_LOAD_PAGE returns 7 where ram_page_data_mut panics.

@@ -43,7 +43,7 @@ module _ (rom : List ℕ) (c : ZXController) (l : Lent) (s : SameLent rom c l) w
       let v = ram-page-told-ordered (l .state) (length (l .ram)) number (length answer) .noneAccepts (ram-page-numbered (l .state) (l .ram) number answer .zeroByNone z) in
       let h = ready-ram-page-told (l .state) bus (length (l .ram)) number (length answer) v in
       let f = ram-page-found (l .state) (l .ram) answer number z rom (rom-long rom c l s) in
-      let g = ram-page-same bus (l .ram) (l .a) (l .b) (l .border) rom c (here .related) (l .state) number (ram-page-judged rom c l here number (h .part .exists)) in
+      let g = ram-page-same bus (l .ram) (l .a) (l .b) (l .border) rom c (here .machine) (here .related) (l .state) number (ram-page-judged rom c l here number (h .part .exists)) in
       record {
         given = g .given;
         number = partStart m (page.Ram number);
@@ -62,7 +62,7 @@ module _ (rom : List ℕ) (c : ZXController) (l : Lent) (s : SameLent rom c l) w
       let v = block-told-ordered (l .state) (length rom) (length (l .ram)) block (length answer) .noneAccepts (block-numbered (l .state) rom (l .ram) block answer .zeroByNone z) in
       let h = ready-block-told (l .state) bus (length rom) (length (l .ram)) block (length answer) v in
       let f = block-found (l .state) rom (l .ram) answer block z in
-      let g = block-same bus (l .ram) (l .a) (l .b) (l .border) rom c (here .related) (l .state) block (block-judged rom c l here block (le-leb block 3 (h .part .blockIn))) in
+      let g = block-same bus (l .ram) (l .a) (l .b) (l .border) rom c (here .machine) (here .related) (l .state) block (block-judged rom c l here block (le-leb block 3 (h .part .blockIn))) in
       record {
         given = g .given;
         number = partStart m (pageAt m (bus .paging) block);
@@ -81,7 +81,7 @@ module _ (rom : List ℕ) (c : ZXController) (l : Lent) (s : SameLent rom c l) w
       let v = shown-told-ordered (l .state) (length (l .a)) (length (l .b)) (length answer) .noneAccepts (shown-picture-numbered (l .state) (l .a) (l .b) answer .zeroByNone z) in
       let h = ready-shown-told (l .state) bus (length (l .a)) (length (l .b)) (length answer) v in
       let f = shown-found (l .state) (l .a) (l .b) answer z in
-      let g = shown-same bus (l .ram) (l .a) (l .b) (l .border) rom c (here .related) (l .state) (shown-judged rom c l here (h .part .aIs) (h .part .bIs)) in
+      let g = shown-same bus (l .ram) (l .a) (l .b) (l .border) rom c (here .machine) (here .related) (l .state) (shown-judged rom c l here (h .part .aIs) (h .part .bIs)) in
       record {
         given = g .given;
         number = cond (showsA (bus .phase)) 0 49152;

@@ -1,7 +1,7 @@
 -- The calls of the C surface that take no time are the Rust's. Each is lent a part of the machine; the rest is any: RAM, pictures or border.
 -- Assumes nothing.
 use Prim.Native.Nat.{ℕ, _<_}
-use mathlib.Core.Path.{_≡_, refl, _∙_, subst}
+use mathlib.Core.Path.{_≡_, refl, sym, _∙_, subst}
 use mathlib.Core.List.{List, [], _∷_}
 use lib.ListN.{length}
 use borrow.Author.Tests.{le-leb}
@@ -24,20 +24,20 @@ use Rattle.bus.proofs.Runs.{ran-world}
 use Rattle.bus.proofs.Kept.{SoundWorld}
 use Rattle.answers.specs.declared.Verdict.{Verdict}
 use Rattle.answers.specs.declared.Verdict.the-variants.{Accepted}
-use Rattle.answers.specs.Answers.{numberAnswer}
 use Rattle.answers.specs.Judges.{judgeState, judgeTold, judgeRead, judgeWrite, judgeLoad, judgeRamPage, judgeBlock, judgeShown}
 use Rattle.answers.proofs.Accepted.{ready-state, ready-told, ready-read, ready-write, ready-load, ready-ram-page, ready-block, ready-shown}
 use Rattle.contracts.specs.Plain as ulb
 use Rattle.contracts.specs.Plain.{tell, withPaging, withPassed}
 use Rattle.rustzx.specs.Controller.{ZXController}
-use Rattle.rustzx.specs.Related.{Related}
+use Rattle.rustzx.specs.Related.{ourMachine, Related}
 use Rattle.bus.specs.Pokes.{poking, byteWrite, pageLoad, passedReset}
 use Rattle.rustzx.specs.Calls as rust
 use Rattle.rustzx.specs.Calls.{Call, partOf, answerOf, after}
-use Rattle.rustzx.proofs.Demand.{call-agrees, kept}
+use Rattle.rustzx.proofs.Demand.{kept}
 use Rattle.surface.specs.Same.{SameTold, SamePart, SameMove}
+use Rattle.surface.proofs.OnMachine.{agrees}
 
-module _ (bus : Bus) (ram a b border rom : List ℕ) (c : ZXController) (r : Related (bus .machine) rom c (worldOf bus ram a b border)) where
+module _ (bus : Bus) (ram a b border rom : List ℕ) (c : ZXController) (its : ourMachine (c .machine) ≡ bus .machine) (r : Related (c .machine) rom c (worldOf bus ram a b border)) where
   abbrev m : ZXMachine
   m = bus .machine
 
@@ -48,7 +48,7 @@ module _ (bus : Bus) (ram a b border rom : List ℕ) (c : ZXController) (r : Rel
   same-told : (k : Call) (number : Bus → ℕ) (answer : List ℕ) (v : Verdict) → v ≡ Accepted bus → Sound bus → rust.Accepted m k w
       → answerOf m rom k w ≡ number bus ∷ [] → SameTold k c (tell number answer v)
   same-told k number answer v e sound ok same =
-      let g = call-agrees m rom c w r k sound ok in
+      let g = agrees m rom c w its r k sound ok in
       rw e (record { given = g .value; number = number bus; ends = g .ends; code = refl; answer = refl; valued = g .holds .0 ∙ same })
 
   -- ULB_READ_INTERNAL is read_internal, where the ROM that is lent is the Rust's.
@@ -79,7 +79,7 @@ module _ (bus : Bus) (ram a b border rom : List ℕ) (c : ZXController) (r : Rel
   -- ---- parts
   same-part : (k : Call) (bytes : List ℕ) → Sound bus → rust.Accepted m k w → answerOf m rom k w ≡ bytes → SamePart k c bytes
   same-part k bytes sound ok same =
-      let g = call-agrees m rom c w r k sound ok in
+      let g = agrees m rom c w its r k sound ok in
       record { given = g .value; ends = g .ends; valued = g .holds .0 ∙ same }
 
   -- The RAM page by number is ram_page_data; the 16 KiB at a block is the data of the page that get_bank_type names; the shown picture is the
@@ -103,14 +103,14 @@ module _ (bus : Bus) (ram a b border rom : List ℕ) (c : ZXController) (r : Rel
   shown-same state e = rw e (same-part rust.screenBuffer _ (ready-shown state bus (length a) (length b) e .onRecord .sound) tt refl)
 
   -- ---- moves
-  same-move : (k : Call) (w′ : World) → Sound bus → rust.Accepted m k w → after m k w ≡ w′ → SameMove m rom k c w′
+  same-move : (k : Call) (w′ : World) → Sound bus → rust.Accepted m k w → after m k w ≡ w′ → SameMove rom k c w′
   same-move k w′ sound ok same =
-      let g = call-agrees m rom c w r k sound ok in
+      let g = agrees m rom c w its r k sound ok in
       record {
         given = g .value;
         ends = g .ends;
-        related = subst (Related m rom (g .value .controller)) same (g .holds .1);
-        sound = subst (SoundWorld m) same (kept m w sound k ok);
+        related = subst (Related (c .machine) rom (g .value .controller)) same (g .holds .1);
+        sound = subst (λ (n : ZXMachine). SoundWorld n w′) (sym its) (subst (SoundWorld m) same (kept m w sound k ok));
       }
 
   poked-is : (p : Place) (value : ℕ) → worldAfter m (poking p value) w ≡ worldOf bus (pokedIn p ram value) a b border
@@ -120,7 +120,7 @@ module _ (bus : Bus) (ram a b border rom : List ℕ) (c : ZXController) (r : Rel
 
   -- ULB_WRITE_INTERNAL is write_internal: the RAM that it leaves is the Rust's, with the rest of the machine as it was.
   pub write-internal-same : (state : List ℕ) (addr value : ℕ) → judgeWrite state (length ram) ≡ Accepted bus
-      → SameMove m rom (rust.writeInternal addr value) c (worldOf bus (ulb.writeInternal state ram addr value .slice) a b border)
+      → SameMove rom (rust.writeInternal addr value) c (worldOf bus (ulb.writeInternal state ram addr value .slice) a b border)
   unfolding ulb.writeInternal partOf
   write-internal-same state addr value e =
       rw e
@@ -133,7 +133,7 @@ module _ (bus : Bus) (ram a b border rom : List ℕ) (c : ZXController) (r : Rel
 
   -- ULB_LOAD_PAGE is the copy into ram_page_data_mut and the refresh that follows it.
   pub load-page-same : (state bytes : List ℕ) (number : ℕ) → judgeLoad state (length ram) (length bytes) number ≡ Accepted bus
-      → SameMove m rom (rust.loadPage number bytes) c (worldOf bus (ulb.loadPage state ram bytes number .slice) a b border)
+      → SameMove rom (rust.loadPage number bytes) c (worldOf bus (ulb.loadPage state ram bytes number .slice) a b border)
   unfolding ulb.loadPage partOf
   load-page-same state bytes number e =
       let h = ready-load state bus (length ram) (length bytes) number e in
@@ -147,7 +147,7 @@ module _ (bus : Bus) (ram a b border rom : List ℕ) (c : ZXController) (r : Rel
 
   -- ULB_RESET_FRAME_COUNTER is reset_frame_counter: the record that it leaves is that of the Rust's state.
   pub reset-same : (state : List ℕ) → judgeState state ≡ Accepted bus
-      → (ulb.resetFrames state .slice ≡ recordBytes (withPassed 0 bus)) × SameMove m rom rust.resetFrameCounter c (worldOf (withPassed 0 bus) ram a b border)
+      → (ulb.resetFrames state .slice ≡ recordBytes (withPassed 0 bus)) × SameMove rom rust.resetFrameCounter c (worldOf (withPassed 0 bus) ram a b border)
   unfolding ulb.resetFrames partOf
   reset-same state e =
       rw e (
@@ -161,17 +161,18 @@ module _ (bus : Bus) (ram a b border rom : List ℕ) (c : ZXController) (r : Rel
   repaged-is paging.Locked = refl
   repaged-is (paging.Taken v) = refl
 
-  -- ULB_WRITE_7FFD is write_7ffd, of a byte; its code is document 01's.
+  -- ULB_WRITE_7FFD is write_7ffd, of a byte; its number is 5 or 6 by whether the Rust's paging was enabled, and 0 on 48K.
   pub write-7ffd-same : (state : List ℕ) (value : ℕ) (answer : List ℕ) → value < 256 → judgeTold state (length answer) ≡ Accepted bus
       → (ulb.write7ffdCall state value answer .state ≡ recordBytes (withPaging (pagingAfter (write7ffd m (bus .paging) value) (bus .paging)) bus))
-      × (ulb.write7ffdCall state value answer .answer ≡ numberAnswer (pagedCode (write7ffd m (bus .paging) value)))
-      × SameMove m rom (rust.write7ffd value) c (worldOf (withPaging (pagingAfter (write7ffd m (bus .paging) value) (bus .paging)) bus) ram a b border)
-  unfolding ulb.write7ffdCall partOf
+      × SameTold (rust.write7ffd value) c (ulb.told (ulb.write7ffdCall state value answer .code) (ulb.write7ffdCall state value answer .answer))
+      × SameMove rom (rust.write7ffd value) c (worldOf (withPaging (pagingAfter (write7ffd m (bus .paging) value) (bus .paging)) bus) ram a b border)
+  unfolding ulb.write7ffdCall partOf answerOf
   write-7ffd-same state value answer byte e =
+      let sound = ready-told state bus (length answer) e .onRecord .sound in
+      let number : Bus → ℕ = λ x. pagedCode (write7ffd (x .machine) (x .paging) value) in
       rw e (
         refl,
-        refl,
-        same-move (rust.write7ffd value) (worldOf (withPaging (pagingAfter (write7ffd m (bus .paging) value) (bus .paging)) bus) ram a b border)
-            (ready-told state bus (length answer) e .onRecord .sound) byte
+        same-told (rust.write7ffd value) number answer (Accepted bus) refl sound byte refl,
+        same-move (rust.write7ffd value) (worldOf (withPaging (pagingAfter (write7ffd m (bus .paging) value) (bus .paging)) bus) ram a b border) sound byte
             (ran-world (pagingWrite m value (w .core)) (fresh m w) ∙ repaged-is (write7ffd m (bus .paging) value)),
       )

@@ -1,28 +1,35 @@
 -- The start of the C surface is the Rust's new controller, with the ROM that the host loads.
 -- Assumes nothing.
 use Prim.Native.Nat.{ℕ, zero, suc, _≤_}
-use mathlib.Core.Path.{_≡_, refl}
+use mathlib.Core.Path.{_≡_, refl, ap, _∙_, subst}
 use mathlib.Core.Bool.{Bool, true, false, cond}
 use mathlib.Core.List.{List}
 use native.Mathlib.Omega.{arith}
 use borrow.Author.Tests.{ltb-false}
 use lib.Dec.{ltb}
 use lib.ListN.{length}
-use Rattle.machine.specs.declared.ZXMachine.{ZXMachine}
+use Rattle.machine.specs.declared.ZXMachine as ours
 use Rattle.machine.specs.Numbers.{specsOf}
 use Rattle.record.specs.Record.{machineNumber, machineOf, startRecord}
 use Rattle.record.proofs.Round.{start-held}
 use Rattle.bus.specs.World.{started}
 use Rattle.contracts.specs.Timed.{Lent, lentBy, startFitsOf, Started, startLeaves, start}
+use Rattle.rustzx.specs.Machine.{ZXMachine}
 use Rattle.rustzx.specs.Controller.{new, withRom}
+use Rattle.rustzx.specs.Related.{ourMachine, Related}
 use Rattle.rustzx.proofs.Starts.{start-related}
+use Rattle.rustzx.proofs.EveryState.{every-machine}
 use Rattle.surface.specs.Same.{SameLent, SameStart}
 
-module _ (l : Lent) (m : ZXMachine) (rom : List ℕ) (long : length rom ≡ specsOf m .rom) where
+module _ (l : Lent) (m : ours.ZXMachine) (z : ZXMachine) (its : ourMachine z ≡ m) (rom : List ℕ) (long : length rom ≡ specsOf m .rom) where
+  begins : Related z rom (withRom rom (new z)) (started m)
+  begins =
+      subst (λ (n : ours.ZXMachine). length rom ≡ specsOf n .rom → Related z rom (withRom rom (new z)) (started n)) its (start-related z rom) long
+
   start-by : (s t : Bool) → cond s (startLeaves 1 l) (cond t (startLeaves 0 (lentBy m (started m))) (startLeaves 2 l)) .code ≡ 0
-      → SameLent rom (withRom rom (new m)) (cond s (startLeaves 1 l) (cond t (startLeaves 0 (lentBy m (started m))) (startLeaves 2 l)) .slices)
+      → SameLent rom (withRom rom (new z)) (cond s (startLeaves 1 l) (cond t (startLeaves 0 (lentBy m (started m))) (startLeaves 2 l)) .slices)
   start-by true t c = absurd (omega arith)
-  start-by false true c = record { bus = startRecord m; isHeld = start-held m; related = start-related m rom long }
+  start-by false true c = record { bus = startRecord m; isHeld = start-held m; machine = its; related = begins }
   start-by false false c = absurd (omega arith)
 
 -- a number that a start accepts is a machine's: "machine (0 = 48K, 1 = 128K)"
@@ -39,7 +46,9 @@ pub start-same : (l : Lent) (machine : ℕ) (rom : List ℕ) → length rom ≡ 
     → SameStart machine rom (start l machine)
 unfolding start
 start-same l machine rom long z =
+    let it = every-machine (machineOf machine) in
     record {
-      named = named-by machine (ltb 1 machine) _ _ refl refl z;
-      leaves = start-by l (machineOf machine) rom long (ltb 1 machine) (startFitsOf (machineOf machine) l) z;
+      machine = it .0;
+      named = ap machineNumber (it .1) ∙ named-by machine (ltb 1 machine) _ _ refl refl z;
+      leaves = start-by l (machineOf machine) (it .0) (it .1) rom long (ltb 1 machine) (startFitsOf (machineOf machine) l) z;
     }

@@ -4,17 +4,15 @@
 use Prim.Native.Nat.{ℕ, _<_}
 use mathlib.Core.Path.{_≡_}
 use mathlib.Core.List.{List, [], _∷_, _++_}
-use Rattle.record.specs.Record.{recordOf}
 use Rattle.ports.specs.Devices.{devicesOf}
-use Rattle.bus.specs.Calls.{writeCode}
 use Rattle.contracts.specs.Timed as timed
-use Rattle.contracts.specs.Timed.{Lent, lentWorld}
+use Rattle.contracts.specs.Timed.{Lent}
 use Rattle.contracts.specs.Plain as plain
 use Rattle.rustzx.specs.Panics.{done}
 use Rattle.rustzx.specs.Controller.{ZXController}
 use Rattle.rustzx.specs.Calls as rust
 use Rattle.rustzx.specs.Calls.{Given, performed}
-use Rattle.surface.specs.Same.{NoValue, ItsValue, ItsCode, SameTimed, SameTold, SameFound, SameLent}
+use Rattle.surface.specs.Same.{NoValue, ItsValue, SameTimed, SameTold, SameFound, SameLent}
 
 -- the calls, each with its numbers and with the slices that are neither the machine's own nor the ROM
 pub data Asked : Type 0 where
@@ -119,15 +117,13 @@ left (shown answer) l = l
 
 -- what the Rust says of an accepted call's answer; a call that only changes the machine says it by what it leaves
 abbrev pub SameAnswer : List ℕ → Asked → ZXController → Lent → Type 0
-SameAnswer rom (waitInternal n answer) c l = SameTimed (recordOf (l .state) .machine) rom (rust.waitInternal n) NoValue c (timed.waitInternal l n answer)
-SameAnswer rom (waitMreq addr n answer) c l = SameTimed (recordOf (l .state) .machine) rom (rust.waitMreq addr n) NoValue c (timed.waitAt l addr n answer)
-SameAnswer rom (waitNoMreq addr n answer) c l = SameTimed (recordOf (l .state) .machine) rom (rust.waitNoMreq addr n) NoValue c (timed.waitAt l addr n answer)
+SameAnswer rom (waitInternal n answer) c l = SameTimed rom (rust.waitInternal n) NoValue c (timed.waitInternal l n answer)
+SameAnswer rom (waitMreq addr n answer) c l = SameTimed rom (rust.waitMreq addr n) NoValue c (timed.waitAt l addr n answer)
+SameAnswer rom (waitNoMreq addr n answer) c l = SameTimed rom (rust.waitNoMreq addr n) NoValue c (timed.waitAt l addr n answer)
 SameAnswer rom (readIo devices port answer) c l =
-    SameTimed (recordOf (l .state) .machine) rom (rust.readIo (devicesOf devices) port) ItsValue c (timed.readIo l devices port answer)
+    SameTimed rom (rust.readIo (devicesOf devices) port) ItsValue c (timed.readIo l devices port answer)
 SameAnswer rom (writeIo devices port value answer) c l =
-    let bus = recordOf (l .state) in
-    SameTimed (bus .machine) rom (rust.writeIo (devicesOf devices) port value) (ItsCode (writeCode (bus .machine) (devicesOf devices) port value (lentWorld bus l .core))) c
-    (timed.writeIo l devices port value answer)
+    SameTimed rom (rust.writeIo (devicesOf devices) port value) ItsValue c (timed.writeIo l devices port value answer)
 SameAnswer rom (readInternal addr answer) c l = SameTold (rust.readInternal addr) c (plain.readInternal (l .state) rom (l .ram) addr answer)
 SameAnswer rom (read7ffd answer) c l = SameTold rust.read7ffd c (plain.read7ffd (l .state) answer)
 SameAnswer rom (intActive answer) c l = SameTold rust.intActive c (plain.intActive (l .state) answer)
@@ -136,7 +132,9 @@ SameAnswer rom (ramPage number answer) c l = SameFound (rust.ramPageOf number) c
 SameAnswer rom (block number answer) c l = SameFound (rust.blockOf number) c (plain.blockTold (l .state) rom (l .ram) number answer) 16384 (rom ++ l .ram)
 SameAnswer rom (shown answer) c l = SameFound rust.screenBuffer c (plain.shownTold (l .state) (l .a) (l .b) answer) 49152 (l .a ++ l .b)
 SameAnswer rom (writeInternal addr value) c l = Unit {0}
-SameAnswer rom (write7ffd value answer) c l = Unit {0}
+SameAnswer rom (write7ffd value answer) c l =
+    let x = plain.write7ffdCall (l .state) value answer in
+    SameTold (rust.write7ffd value) c (plain.told (x .code) (x .answer))
 SameAnswer rom resetFrames c l = Unit {0}
 SameAnswer rom (loadPage bytes number) c l = Unit {0}
 

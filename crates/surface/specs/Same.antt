@@ -6,11 +6,10 @@ use mathlib.Core.Path.{_≡_}
 use mathlib.Core.Bool.{Bool}
 use mathlib.Core.List.{List, [], _∷_}
 use lib.ListN.{length, take, drop}
-use Rattle.machine.specs.declared.ZXMachine.{ZXMachine}
 use Rattle.record.specs.declared.Bus.{Bus}
 use Rattle.record.specs.declared.Held.the-variants as held
 use Rattle.record.specs.Words.{longAt}
-use Rattle.record.specs.Record.{machineNumber, machineOf, heldBy}
+use Rattle.record.specs.Record.{machineNumber, heldBy}
 use Rattle.record.specs.Sound.{Sound}
 use Rattle.bus.specs.World.{World, busOf}
 use Rattle.answers.specs.Answers.{timedAnswer, numberAnswer}
@@ -18,35 +17,35 @@ use Rattle.contracts.specs.Timed.{Lent, Outcome, lentBy, lentWorld, Started}
 use Rattle.contracts.specs.Plain.{Told}
 use Rattle.rustzx.specs.Panics.{Run, done, panics}
 use Rattle.rustzx.specs.Controller.{ZXController, new, withRom}
-use Rattle.rustzx.specs.Related.{Related}
+use Rattle.rustzx.specs.Machine.{ZXMachine}
+use Rattle.rustzx.specs.Related.{ourMachine, Related}
 use Rattle.rustzx.specs.Calls.{Call, Given, performed, TimedByRust}
 
--- the slices hold the Rust's machine: their record is sound, and the world that it stands for among them is related to what the Rust holds. Each
--- theorem on a call asks this of what is lent; a start brings it about, and every accepted call leaves it.
+-- the slices hold the Rust's machine: their record is sound and of that machine, and the world that it stands for among them is related to what
+-- the Rust holds. Each theorem on a call asks this of what is lent; a start brings it about, and every accepted call leaves it.
 pub record SameLent (rom : List ℕ) (c : ZXController) (l : Lent) : Type 0 where
   pub bus : Bus
   pub isHeld : heldBy (l .state) ≡ held.Sound bus
-  pub related : Related (bus .machine) rom c (lentWorld bus l)
+  pub machine : ourMachine (c .machine) ≡ bus .machine
+  pub related : Related (c .machine) rom c (lentWorld bus l)
 
--- an accepted start: its number names a machine, "machine (0 = 48K, 1 = 128K)", and the slices hold the Rust's new controller of that machine, with
--- the ROM that the host loads
-pub record SameStart (machine : ℕ) (rom : List ℕ) (s : Started) : Type 0 where
-  pub named : machineNumber (machineOf machine) ≡ machine
-  pub leaves : SameLent rom (withRom rom (new (machineOf machine))) (s .slices)
+-- an accepted start: its number names a machine of the Rust, "machine (0 = 48K, 1 = 128K)", and the slices hold the Rust's new controller of that
+-- machine, with the ROM that the host loads
+pub record SameStart (number : ℕ) (rom : List ℕ) (s : Started) : Type 0 where
+  pub machine : ZXMachine
+  pub named : machineNumber (ourMachine machine) ≡ number
+  pub leaves : SameLent rom (withRom rom (new machine)) (s .slices)
 
--- "value or code (0 for a wait)": a read's value is the Rust's answer; a write's code is document 01's own, as the Rust answers a write nothing
+-- "value or code (0 for a wait)": a read's value is the Rust's answer, and a write's code the code of whom the Rust reached
 abbrev pub NoValue : Given → ℕ → Type 0
 NoValue g value = value ≡ 0
 
 abbrev pub ItsValue : Given → ℕ → Type 0
 ItsValue g value = g .answer ≡ value ∷ []
 
-abbrev pub ItsCode : ℕ → Given → ℕ → Type 0
-ItsCode code g value = value ≡ code
-
 -- an accepted timed call: the Rust's call ends; the slices hold, byte for byte, a world that is related to what the Rust then holds, clock, RAM,
 -- both pictures and border among it; and the ten bytes of the answer are the Rust's
-pub record SameTimed (m : ZXMachine) (rom : List ℕ) (k : Call) (Valued : Given → ℕ → Type 0) (c : ZXController) (o : Outcome) : Type 0 where
+pub record SameTimed (rom : List ℕ) (k : Call) (Valued : Given → ℕ → Type 0) (c : ZXController) (o : Outcome) : Type 0 where
   pub given : Given
   pub world : World
   pub value : ℕ
@@ -55,10 +54,10 @@ pub record SameTimed (m : ZXMachine) (rom : List ℕ) (k : Call) (Valued : Given
   pub closed : Bool
   pub int : Bool
   pub ends : performed k c ≡ done given
-  pub related : Related m rom (given .controller) world
-  pub sound : Sound (busOf m world)
+  pub related : Related (c .machine) rom (given .controller) world
+  pub sound : Sound (busOf (ourMachine (c .machine)) world)
   pub code : o .code ≡ 0
-  pub slices : o .slices ≡ lentBy m world
+  pub slices : o .slices ≡ lentBy (ourMachine (c .machine)) world
   pub answer : o .answer ≡ timedAnswer value closed int clocks blocks
   pub valued : Valued given value
   pub byRust : TimedByRust c (given .controller) clocks blocks closed int
@@ -93,11 +92,11 @@ pub record SameFound (k : Call) (c : ZXController) (t : Told) (size : ℕ) (coun
   pub whole : length (given .answer) ≡ size
 
 -- a call that changes the machine and is lent a part of it only: the Rust's call ends, and what it then holds is related to the world after
-pub record SameMove (m : ZXMachine) (rom : List ℕ) (k : Call) (c : ZXController) (after : World) : Type 0 where
+pub record SameMove (rom : List ℕ) (k : Call) (c : ZXController) (after : World) : Type 0 where
   pub given : Given
   pub ends : performed k c ≡ done given
-  pub related : Related m rom (given .controller) after
-  pub sound : Sound (busOf m after)
+  pub related : Related (c .machine) rom (given .controller) after
+  pub sound : Sound (busOf (ourMachine (c .machine)) after)
 
 -- a helper: a number that the Rust gives is the answer's, and where the Rust panics the call is refused by 8
 abbrev pub SameHelp : Run ℕ → Told → Type 0
