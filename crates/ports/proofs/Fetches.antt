@@ -197,27 +197,36 @@ document-at start line row x t h e =
     let r : (row * line + x) % line ≡ x = mul-add-mod-self-right row line x ∙ mod-eq-of-lt {n = x} {m = line} h in
     rw (le-ltb t start (omega arith), d, q, r)
 
+-- an idle T-state fetches no byte, and one that fetches a byte of the bitmap fetches no attribute
+abbrev kindOf : FloatingPlace → ℕ
+kindOf Idle = 0
+kindOf (Bitmap row column) = 1
+kindOf (Attribute row column) = 2
+
+clash : {A : Type 0} {x y : FloatingPlace} → x ≡ y → (kindOf x ≡ kindOf y → ⊥) → A
+clash e n = absurd (n (ap kindOf e))
+
 -- a byte is fetched in one line, and there at one T-state
 in-bitmap-only : (q r row column : ℕ) → floatingIn q r ≡ Bitmap row column → (q ≡ row) × (r ≡ intoLine column)
 unfolding floatingIn
 in-bitmap-only q r row column =
     let P : FloatingPlace → Type 0 = λ x. x ≡ Bitmap row column → (q ≡ row) × (r ≡ intoLine column) in
-    by-le P 192 q (λ h e. let z : _≡_ {A = ℕ} 0 1 = cc in let y : ⊥ = omega arith in absurd y)
-    (λ h. by-le P 124 r (λ g e. let z : _≡_ {A = ℕ} 0 1 = cc in let y : ⊥ = omega arith in absurd y)
-    (λ g. by-lt P 3 (r % 8) (λ f e. let z : _≡_ {A = ℕ} 0 1 = cc in let y : ⊥ = omega arith in absurd y)
+    by-le P 192 q (λ h e. clash e (λ z. omega arith))
+    (λ h. by-le P 124 r (λ g e. clash e (λ z. omega arith))
+    (λ g. by-lt P 3 (r % 8) (λ f e. clash e (λ z. omega arith))
     (λ f. by-eq P (r % 2) 0
     (λ o e. let a : q ≡ row = cc in let b : columnAt r ≡ column = cc in (a, omega arith))
-    (λ o e. let z : _≡_ {A = ℕ} 0 1 = cc in let y : ⊥ = omega arith in absurd y))))
+    (λ o e. clash e (λ z. omega arith)))))
 
 in-attribute-only : (q r row column : ℕ) → floatingIn q r ≡ Attribute row column → (q ≡ row) × (r ≡ intoLine column + 1)
 unfolding floatingIn
 in-attribute-only q r row column =
     let P : FloatingPlace → Type 0 = λ x. x ≡ Attribute row column → (q ≡ row) × (r ≡ intoLine column + 1) in
-    by-le P 192 q (λ h e. let z : _≡_ {A = ℕ} 0 1 = cc in let y : ⊥ = omega arith in absurd y)
-    (λ h. by-le P 124 r (λ g e. let z : _≡_ {A = ℕ} 0 1 = cc in let y : ⊥ = omega arith in absurd y)
-    (λ g. by-lt P 3 (r % 8) (λ f e. let z : _≡_ {A = ℕ} 0 1 = cc in let y : ⊥ = omega arith in absurd y)
+    by-le P 192 q (λ h e. clash e (λ z. omega arith))
+    (λ h. by-le P 124 r (λ g e. clash e (λ z. omega arith))
+    (λ g. by-lt P 3 (r % 8) (λ f e. clash e (λ z. omega arith))
     (λ f. by-eq P (r % 2) 0
-    (λ o e. let z : _≡_ {A = ℕ} 0 1 = cc in let y : ⊥ = omega arith in absurd y)
+    (λ o e. clash e (λ z. omega arith))
     (λ o e. let a : q ≡ row = cc in let b : columnAt r ≡ column = cc in (a, omega arith)))))
 
 -- from the line and the T-state in it back to the T-state of the frame
@@ -230,25 +239,25 @@ document-bitmap : (start line t row column : ℕ) → document 0 start line t �
 unfolding document
 document-bitmap start line t row column =
     by-lt (λ (x : FloatingPlace). x ≡ Bitmap row column → t ≡ start + row * line + intoLine column) t start
-    (λ h e. let z : _≡_ {A = ℕ} 0 1 = cc in let y : ⊥ = omega arith in absurd y)
+    (λ h e. clash e (λ z. omega arith))
     (λ h e. let i = in-bitmap-only (0 + (t - start) / line) ((t - start) % line) row column e in rejoined start line row (intoLine column) t h (omega (arith, i .0), i .1))
 
 document-attribute : (start line t row column : ℕ) → document 0 start line t ≡ Attribute row column → t ≡ start + row * line + (intoLine column + 1)
 unfolding document
 document-attribute start line t row column =
     by-lt (λ (x : FloatingPlace). x ≡ Attribute row column → t ≡ start + row * line + (intoLine column + 1)) t start
-    (λ h e. let z : _≡_ {A = ℕ} 0 1 = cc in let y : ⊥ = omega arith in absurd y)
+    (λ h e. clash e (λ z. omega arith))
     (λ h e. let i = in-attribute-only (0 + (t - start) / line) ((t - start) % line) row column e in rejoined start line row (intoLine column + 1) t h (omega (arith, i .0), i .1))
 
 -- what is not idle in document 01's terms is the same byte in the pages'
 bitmap-back : (f : Fetch) (row column : ℕ) → asPlace f ≡ Bitmap row column → f ≡ bitmapByte row column
-bitmap-back idle row column e = let z : _≡_ {A = ℕ} 0 1 = cc in let y : ⊥ = omega arith in absurd y
-bitmap-back (attributeByte r c) row column e = let z : _≡_ {A = ℕ} 0 1 = cc in let y : ⊥ = omega arith in absurd y
+bitmap-back idle row column e = clash e (λ z. omega arith)
+bitmap-back (attributeByte r c) row column e = clash e (λ z. omega arith)
 bitmap-back (bitmapByte r c) row column e = let a : r ≡ row = cc in let b : c ≡ column = cc in ap₂ bitmapByte a b
 
 attribute-back : (f : Fetch) (row column : ℕ) → asPlace f ≡ Attribute row column → f ≡ attributeByte row column
-attribute-back idle row column e = let z : _≡_ {A = ℕ} 0 1 = cc in let y : ⊥ = omega arith in absurd y
-attribute-back (bitmapByte r c) row column e = let z : _≡_ {A = ℕ} 0 1 = cc in let y : ⊥ = omega arith in absurd y
+attribute-back idle row column e = clash e (λ z. omega arith)
+attribute-back (bitmapByte r c) row column e = clash e (λ z. omega arith)
 attribute-back (attributeByte r c) row column e = let a : r ≡ row = cc in let b : c ≡ column = cc in ap₂ attributeByte a b
 
 -- each byte of the picture is fetched at its T-state, and at no other, on any page whose lines have room for the sixteen groups
