@@ -15,7 +15,7 @@ use Rattle.machine.specs.declared.ZXMachine.the-variants.{Sinclair48K, Sinclair
 use Rattle.machine.specs.declared.ZXSpecs.{ZXSpecs}
 use Rattle.machine.specs.declared.BorderPlace.the-variants.{At, FrameEnd}
 use Rattle.machine.specs.Numbers.{specsOf, Regular}
-use Rattle.machine.specs.Timing.{delay, blockPosition, borderAt}
+use Rattle.machine.specs.Timing.{delay, blockPosition}
 use Rattle.machine.specs.Contended.{portContended}
 use Rattle.machine.proofs.Numbered.{regular}
 use Rattle.machine.proofs.Bounds.{delay-small}
@@ -34,9 +34,9 @@ use Rattle.border.specs.Edge.{Edge, filled, inked, inkedAt, finished}
 use Rattle.bus.specs.World.{Core, World}
 use Rattle.bus.specs.Time.{Op, tick, colour, closes, caughtUp, inCore, inScreen, inEdge, does}
 use Rattle.bus.specs.Turns.{Turn, turned, ran, clocksOf, blocksOf, closedBy, coreAfter, Part, andThen, ranBy}
-use Rattle.bus.specs.Calls.{contended, plainWait, heldStep, firstPart, lastPart, finalStep, readBefore, portRead, floatingByte, floatingBus, answered, readValue}
-use Rattle.bus.specs.Clocks.{dueAt, firstClocks, heldOnce, heldTwice, heldThrice, lastClocks, partClocks, inkedAtClock, atClock}
-use Rattle.bus.proofs.OneStep.{closes-at, goes-on-at, core-closed, core-goes, screen-closed, screen-goes, edge-closed, edge-goes}
+use Rattle.bus.specs.Calls.{plainWait, heldStep, firstPart, lastPart, finalStep, readBefore, portRead, floatingByte, floatingBus, answered, readValue}
+use Rattle.bus.specs.Clocks.{firstClocks, heldOnce, heldTwice, heldThrice, lastClocks, partClocks, inkedAtClock, atClock}
+use Rattle.bus.proofs.OneStep.{closes-at, core-closed, core-goes, screen-closed, screen-goes}
 use Rattle.bus.proofs.Runs.{ran-machine, ran-core, ran-then}
 use Rattle.bus.proofs.Closing.{step-inside}
 use Rattle.bus.proofs.Merge.{short-merge, address-merge}

@@ -3,7 +3,7 @@
 use Prim.Native.Nat.{ℕ, _+_, _%_, _^_, _<_, _≤_}
 use mathlib.Core.Path.{_≡_, refl, sym, ap, _∙_, subst}
 use mathlib.Core.Bool.{Bool, or-false}
-use mathlib.Core.List.{List, [], _∷_}
+use mathlib.Core.List.{List, []}
 use native.Mathlib.Omega.{arith}
 use native.Mathlib.Nat.{add-zero}
 use Rattle.machine.specs.declared.ZXMachine.{ZXMachine}
@@ -26,14 +26,14 @@ use Rattle.border.specs.Edge.{Edge, edgeOf, inked}
 use Rattle.steps.specs.declared.Turning.{Turning}
 use Rattle.bus.specs.World.{Core, Screen}
 use Rattle.bus.specs.Time.{tick, inCore, inScreen, inEdge}
-use Rattle.bus.specs.Turns.{Turn, turned, ran, clocksOf, blocksOf, closedBy, Part, andThen, ranBy}
+use Rattle.bus.specs.Turns.{Turn, turned, ran, clocksOf, blocksOf, closedBy, andThen, ranBy}
 use Rattle.bus.specs.Calls.{plainWait, firstPart, lastPart, finalStep, portRead, floatingByte, floatingBus, answered, readValue, repaged, pagingWrite, actedOn, portWrite, writeCode}
 use Rattle.bus.specs.Clocks.{firstClocks, lastClocks, partClocks, inkedAtClock, atClock}
 use Rattle.bus.proofs.PortSteps.{first-small, last-small, step-paging, first-step, last-final, read-step, quiet-step, border-step, read-value}
 use Rattle.steps.specs.Turned.{turnOf, edgeIn, Ready}
 use Rattle.contention.proofs.CodeReady.{ready-less, ready-inked, ready-paging, ready-step}
 use Rattle.calls.specs.Paged.{pagedWrite}
-use Rattle.calls.proofs.CodeRuns.{follows, left-machine, left-core}
+use Rattle.calls.proofs.CodeRuns.{follows, left-core}
 
 -- ---- the floating bus
 

@@ -2,7 +2,6 @@
 -- Assumes nothing.
 use mathlib.Core.Path.{_≡_, refl, sym, ap, _∙_}
 use Rattle.machine.specs.declared.ZXMachine.{ZXMachine}
-use Rattle.bus.specs.World.{Core}
 use Rattle.bus.specs.Turns.{Turn, coreAfter, Part, andThen, ranBy}
 use Rattle.bus.proofs.Runs.{ran-machine, ran-core, ran-then}
 

@@ -1,9 +1,9 @@
 -- Each way through the code of waits and clocks is a case of their definitions, over plain turns and numbers.
 -- Assumes nothing.
 use Prim.Native.Nat.{ℕ, _+_, _^_, _<_, _≤_}
-use mathlib.Core.Path.{_≡_, refl, sym, ap, _∙_}
+use mathlib.Core.Path.{_≡_, sym, ap, _∙_}
 use mathlib.Core.Bool.{Bool, true, false, cond}
-use mathlib.Core.List.{List, [], _∷_}
+use mathlib.Core.List.{[], _∷_}
 use native.Mathlib.Omega.{arith}
 use Rattle.laws.proofs.Cases.{by-bool}
 use Rattle.machine.specs.declared.ZXMachine.{ZXMachine}
@@ -16,8 +16,8 @@ use Rattle.machine.proofs.Numbered.{regular}
 use Rattle.memory.specs.Paging.{addrContended}
 use Rattle.bus.specs.Time.{tick}
 use Rattle.bus.specs.Turns.{Turn, ran, ranBy}
-use Rattle.bus.specs.Calls.{contended, plainWait, addressWait}
-use Rattle.bus.specs.Clocks.{dueAt, firstClocks, heldOnce, heldTwice, heldThrice, lastClocks}
+use Rattle.bus.specs.Calls.{plainWait, addressWait}
+use Rattle.bus.specs.Clocks.{dueAt, firstClocks, heldTwice, heldThrice, lastClocks}
 use Rattle.bus.proofs.Merge.{address-merge}
 use Rattle.bus.proofs.PortSteps.{first-small, last-small}
 use Rattle.steps.specs.Turned.{Ready}

@@ -1,12 +1,10 @@
 -- What a call asks before its first step is enough for all of them: each step takes its clocks from what is asked.
 -- Assumes nothing.
-use Prim.Native.Nat.{ℕ, _+_, _-_, _*_, _%_, _^_, _<_, _≤_}
-use mathlib.Core.Path.{_≡_, refl, sym, ap, _∙_, subst}
-use mathlib.Core.Bool.{Bool, true, false, cond}
-use mathlib.Core.List.{List, [], _∷_}
+use Prim.Native.Nat.{ℕ, _+_, _-_, _*_, _^_, _<_, _≤_}
+use mathlib.Core.Path.{_≡_, refl, sym, _∙_, subst}
+use mathlib.Core.Bool.{Bool, true, false}
+use mathlib.Core.List.{List}
 use native.Mathlib.Omega.{arith}
-use native.Mathlib.Nat.{add-zero}
-use lib.Dec.{leb}
 use lib.ListN.{length}
 use Rattle.laws.proofs.Cases.{split, by-bool}
 use Rattle.machine.specs.declared.ZXMachine.{ZXMachine}
@@ -20,16 +18,13 @@ use Rattle.memory.specs.declared.Paged.{Paged}
 use Rattle.memory.specs.declared.Paged.the-variants as paging
 use Rattle.memory.specs.Memory.{ramPage}
 use Rattle.memory.specs.Paging.{write7ffd}
-use Rattle.paint.specs.Paint.{paint}
 use Rattle.paint.proofs.Painting.{length-paint}
 use Rattle.border.specs.Edge.{Edge, inked, inkedAt, finished}
 use Rattle.border.proofs.Fills.{length-filled}
-use Rattle.record.specs.declared.Bus.{Bus}
-use Rattle.record.specs.Sound.{Sound}
-use Rattle.bus.specs.World.{Screen, worldOf}
+use Rattle.bus.specs.World.{Screen}
 use Rattle.bus.specs.Time.{Look, tick, paged, caughtUp, inCore, inScreen, inEdge}
-use Rattle.bus.specs.Turns.{Turn, turned, ran, clocksOf, blocksOf, ranBy, fresh}
-use Rattle.bus.specs.Calls.{plainWait, repaged, pagingWrite}
+use Rattle.bus.specs.Turns.{Turn, turned, ran, clocksOf, blocksOf, ranBy}
+use Rattle.bus.specs.Calls.{repaged, pagingWrite}
 use Rattle.bus.specs.Clocks.{inkedAtClock}
 use Rattle.steps.specs.Turned.{Ready}
 use Rattle.steps.proofs.CodeStep.{onTick, overTick, tick-on, tick-over}
@@ -178,27 +173,3 @@ ready-paging t u s c v e r =
 pub ready-step : (t u : Turn) (s c n : ℕ) → u ≡ turned (tick n) t → Ready t (s + 1) (c + n) → Ready u s c
 ready-step t u s c n e r =
     subst (λ (x : Turn). Ready x s c) (sym e) (ready-tick t s c (s + 1) (c + n) n r (omega arith) (omega arith))
-
--- a sound record before the last passed frame, with memory of the right sizes, is ready for a call of up to ten steps and 65,541 clocks
-at-start : (m : ZXMachine) (passed clock n : ℕ) → passed + 1 < 2 ^ 32 → clock < specsOf m .frame → n ≤ 65541
-    → (n < specsOf m .frame) × (passed * specsOf m .frame + clock + n < 2 ^ 32 * specsOf m .frame)
-at-start Sinclair48K passed clock n h k l = (omega arith, omega arith)
-at-start Sinclair128K passed clock n h k l = (omega arith, omega arith)
-
-pub ready-begun : (bus : Bus) (ram a b border : List ℕ) (s c : ℕ) → Sound bus → bus .passed + 1 < 2 ^ 32 → length ram ≡ specsOf (bus .machine) .ram
-    → length a ≡ 49152 → length b ≡ 49152 → length border ≡ 76800 → s ≤ 10 → c ≤ 65541 → Ready (fresh (bus .machine) (worldOf bus ram a b border)) s c
-ready-begun bus ram a b border s c sound room l-ram l-a l-b l-border few short =
-    let t = at-start (bus .machine) (bus .passed) (bus .clock) c room (sound .clock) short in
-    record {
-      ramFits = l-ram;
-      aFits = l-a;
-      bFits = l-b;
-      borderFits = l-border;
-      phaseFits = sound .phase;
-      inFrame = sound .clock;
-      inPlace = sound .painted;
-      short = t .0;
-      time = t .1;
-      clocksFit = omega arith;
-      blocksFit = omega arith;
-    }

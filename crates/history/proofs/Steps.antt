@@ -18,7 +18,7 @@ use lib.ListN.{length}
 use Rattle.record.specs.Record.{machineOf}
 use Rattle.bus.specs.World.{started}
 use Rattle.contracts.specs.Timed.{Lent, lent, lentBy, Outcome, outcome, Started, startLeaves, start, waitInternal, waitAt, readIo, writeIo}
-use Rattle.contracts.specs.Plain.{Told, told, Changed, changed, Repaged, repaged, readInternal, writeInternal, write7ffdCall, read7ffd, intActive, framesCount, resetFrames, loadPage, stillPicture, ramPageTold, blockTold, shownTold}
+use Rattle.contracts.specs.Plain.{Told, told, Changed, changed, Repaged, readInternal, writeInternal, write7ffdCall, read7ffd, intActive, framesCount, resetFrames, loadPage, stillPicture, ramPageTold, blockTold, shownTold}
 use Rattle.ulb_start.proofs.ulb_start.Reads as ulb-start
 use Rattle.ulb_wait_internal.proofs.ulb_wait_internal.Reads as ulb-wait-internal
 use Rattle.ulb_wait_mreq.proofs.ulb_wait_mreq.Reads as ulb-wait-mreq

@@ -1,8 +1,7 @@
 -- The definitions of document 01 (specs/Timing) and those of the public pages (specs/Pages) agree at each clock, over any numbers that go together.
 -- Assumes nothing.
 use mathlib.Core.Path.{_≡_, refl, ap, sym, _∙_}
-use mathlib.Core.List.{List, [], _∷_}
-use mathlib.Core.Bool.{Bool, true, false, cond}
+use mathlib.Core.Bool.{cond}
 use Prim.Native.Nat.{ℕ, zero, suc, _+_, _-_, _*_, _/_, _%_, _<_, _≤_}
 use native.Mathlib.Nat.{mod-eq-of-lt, mod-eq-sub-mod, div-eq-of-lt, div-eq-sub-div, div-lt-iff-lt-mul, suc-mul, mul-add}
 use native.Mathlib.Numerals.{add-one, one-add}
@@ -13,8 +12,6 @@ use lib.ListN.{getD}
 use Rattle.laws.proofs.Cases.{split}
 use Rattle.machine.specs.declared.ZXMachine.{ZXMachine}
 use Rattle.machine.specs.declared.ZXMachine.the-variants.{Sinclair48K, Sinclair128K}
-use Rattle.machine.specs.declared.BorderPlace.{BorderPlace}
-use Rattle.machine.specs.declared.BorderPlace.the-variants.{At, FrameEnd}
 use Rattle.machine.specs.declared.ZXSpecs.{ZXSpecs}
 use Rattle.machine.specs.Numbers.{specsOf}
 use Rattle.machine.specs.Timing.{pattern, held, delay, blocksIn, blocksFrom, blocksAt, blockPosition, borderIn, borderFrom, borderAt, borderPosition, interrupt}

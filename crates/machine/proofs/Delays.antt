@@ -1,7 +1,6 @@
 -- When a delay is due and when none is: it ends within its frame, and none is due in the clocks that are left over past a frame's end.
 -- Assumes nothing.
-use mathlib.Core.Path.{_≡_, refl, sym, _∙_}
-use mathlib.Core.Bool.{cond}
+use mathlib.Core.Path.{_≡_, sym, _∙_}
 use Prim.Native.Nat.{ℕ, _+_, _-_, _*_, _/_, _%_, _<_, _≤_}
 use native.Mathlib.Nat.{mul-le-mul-left, div-add-mod}
 use native.Mathlib.Omega.{arith}

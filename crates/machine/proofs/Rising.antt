@@ -1,18 +1,18 @@
 -- Both positions never fall as the clock rises, and both are at their end at the frame's last clock, over any regular numbers.
 -- Assumes nothing.
-use mathlib.Core.Path.{_≡_, refl, ap, sym, _∙_, subst}
-use mathlib.Core.Bool.{Bool, true, false, cond}
+use mathlib.Core.Path.{_≡_, refl, ap, sym, _∙_}
+use mathlib.Core.Bool.{true}
 use Prim.Native.Nat.{ℕ, zero, suc, _+_, _-_, _*_, _/_, _%_, _<_, _≤_}
 use native.Mathlib.Nat.{mul-le-mul-left, div-add-mod, mod-lt, mul-add}
 use native.Mathlib.Omega.{arith}
 use borrow.Author.Tests.{lt-ltb, le-ltb, le-leb, lt-leb}
-use lib.Dec.{ltb, leb}
+use lib.Dec.{leb}
 use Rattle.laws.proofs.Cases.{split}
 use Rattle.machine.specs.declared.ZXSpecs.{ZXSpecs}
 use Rattle.machine.specs.declared.BorderPlace.{BorderPlace}
 use Rattle.machine.specs.declared.BorderPlace.the-variants.{At, FrameEnd}
 use Rattle.machine.specs.Numbers.{Regular}
-use Rattle.machine.specs.Timing.{delay, blocksIn, blocksFrom, blocksAt, blockPosition, borderIn, borderFrom, borderAt, borderPosition, placePosition, isFrameEnd, frameEnd}
+use Rattle.machine.specs.Timing.{blocksIn, blocksFrom, blocksAt, blockPosition, borderIn, borderFrom, borderAt, borderPosition, placePosition, isFrameEnd, frameEnd}
 use Rattle.machine.specs.Pages.{ticks, passed}
 use Rattle.machine.proofs.Agree.{blocks-are, pairs-are}
 use Rattle.machine.proofs.Bounds.{Within, border-within}

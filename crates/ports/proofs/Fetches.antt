@@ -8,7 +8,6 @@ use native.Mathlib.Nat.{mod-eq-of-lt, mod-eq-sub-mod, div-eq-of-lt, div-eq-sub-d
 use native.Mathlib.Omega.{arith}
 use borrow.Author.Tests.{lt-ltb, le-ltb, le-leb, lt-leb, eq-eqb, ne-eqb}
 use lib.Dec.{ltb, eqb}
-use Rattle.laws.proofs.Below.{same}
 use Rattle.laws.proofs.Cases.{split, by-lt, by-le, by-eq}
 use Rattle.machine.specs.declared.ZXMachine.{ZXMachine}
 use Rattle.machine.specs.declared.ZXMachine.the-variants.{Sinclair48K}

@@ -4,7 +4,6 @@ use Prim.Native.Nat.{ℕ, _+_}
 use mathlib.Core.Path.{_≡_, refl, sym, ap, _∙_}
 use mathlib.Core.Bool.{Bool, true, false, false≢true}
 use mathlib.Core.List.{List}
-use Rattle.machine.specs.declared.ZXMachine.{ZXMachine}
 use Rattle.record.specs.declared.Bus.{Bus}
 use Rattle.record.specs.Record.{recordBytes, advanced}
 use Rattle.record.proofs.Round.{movedTo, advanced-bytes}
@@ -18,7 +17,7 @@ use Rattle.bus.proofs.OneStep.{goes-on-at}
 use Rattle.bus.proofs.Merge.{address-merge}
 use Rattle.bus.proofs.PortSteps.{read-step}
 use Rattle.steps.specs.Turned.{turnOf, Ready}
-use Rattle.steps.proofs.CodeStep.{onTick, tick-on}
+use Rattle.steps.proofs.CodeStep.{tick-on}
 
 module _ (bus : Bus) (begun turn : Turning) (n : ℕ) (state ram a b border a′ b′ border′ : List ℕ)
     (starts : turnOf begun ram a b border ≡ fresh (bus .machine) (worldOf bus ram a b border))
