@@ -11,7 +11,7 @@ use lib.Dec.{ltb, eqb}
 use lib.ListN.{getD}
 use Rattle.machine.specs.declared.ZXMachine.{ZXMachine}
 use Rattle.machine.specs.declared.ZXMachine.the-variants.{Sinclair48K, Sinclair128K}
-use Rattle.machine.specs.Pages.{Page, pageOf, laps, readShift}
+use Rattle.machine.specs.Pages.{Page, pageOf, laps}
 use Rattle.offsets.specs.Pages.{bit, displayAddress, colourAddress}
 
 -- bit k of a number is 1: address line k of a port, or bit k of a byte
@@ -119,10 +119,10 @@ fetches (suc k) row start perLine t =
     cond (ltb t start) idle
     (cond (ltb t (start + perLine)) (groups 16 row 0 (t - start)) (fetches k (suc row) (start + perLine) perLine t))
 
--- On 48K the first bitmap byte is seen at 14,338, which is two T-states after the first byte is due. For 128K no page states the
+-- 48K: "The first bitmap byte is seen at 14,338", which is two T-states after the first byte is due at 14,336. For 128K no page states the
 -- T-state; the same two T-states are taken.
 abbrev pub firstFetch : Page → ℕ
-firstFetch p = p .firstByte + readShift
+firstFetch p = p .firstByte + 2
 
 abbrev pub pageFloating : Page → ℕ → Fetch
 pageFloating p t = fetches 192 0 (firstFetch p) (p .perLine) t
