@@ -219,7 +219,7 @@ module _ (p : Page) (s : ZXSpecs) (e : Same p s) (t : ℕ) where
   unfolding delay doc
   agree-delay = rw (e .line, e .contention) (scan-is 192 (s .contention) (s .line) t (omega (arith, e .wide)))
 
-  -- the blocks that have come by the page are document 01's block position
+  -- the blocks that have come at the pace of the page's pixels are document 01's block position
   pub agree-blocks : pageBlocks p t ≡ blockPosition s t
   agree-blocks = rw (e .line, e .block) (blocks-are s t (e .wide))
 

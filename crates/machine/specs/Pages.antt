@@ -81,7 +81,9 @@ windowLines = 24
 abbrev pub windowClocks : ℕ
 windowClocks = 16
 
--- blocks of the picture that have come: eight pixels take four T-states, a line has 32 blocks, the picture 192 lines
+-- Blocks of the picture that have come, at the pace of the pixels: two take one T-state and a block's eight take four, a line has 32 blocks, the
+-- picture 192 lines. When the ULA fetches the two bytes of a block is another question, which the pages answer by the order of the floating bus
+-- (crate ports, specs/Pages); the two answers are the same for the bitmap bytes of even columns alone (there, proofs/BlockClocks).
 abbrev pub pageBlocks : Page → ℕ → ℕ
 pageBlocks p t = passed 192 32 4 (p .perLine) (p .firstByte + readShift) t
 

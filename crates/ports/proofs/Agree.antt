@@ -1,4 +1,5 @@
--- Document 01's port decoding and keys (specs/Order, specs/Keys) against the public pages' (specs/Pages): where they agree, and exactly where they part.
+-- Document 01's port decoding and keys (specs/Order, specs/Keys) in the pages' terms (specs/Terms) against the public pages' (specs/Pages): where they
+-- agree, and exactly where they part.
 -- Assumes nothing.
 use Prim.Native.Nat.{ℕ, zero, suc, _+_, _≤_, _<_}
 use mathlib.Core.Path.{_≡_, refl, sym, ap, ap₂, _∙_, subst}
@@ -19,12 +20,13 @@ use Rattle.ports.specs.declared.Ay.the-variants as ay
 use Rattle.ports.specs.declared.Joystick.the-variants as joystick
 use Rattle.ports.specs.declared.Mouse.the-variants as mouse
 use Rattle.ports.specs.declared.Devices.{Devices}
-use Rattle.ports.specs.declared.Answer.the-variants.{Floating}
+use Rattle.ports.specs.declared.Answer.the-variants.{Value, Floating}
 use Rattle.ports.specs.declared.Written.{Written}
 use Rattle.ports.specs.declared.Written.the-variants as written
 use Rattle.ports.specs.Keys.{selected, rowIn, rowsAnd, keysRead}
 use Rattle.ports.specs.Order.{has7ffd, pagingPort, ayByte, readOrder, portOrder}
-use Rattle.ports.specs.Pages.{isSet, selectLines, Heard, pageWrite, isFitted, pageRead, readAlsoPages, keyUp, columnUp, pageKeyBit, Keyboard, heardBy, writeParts}
+use Rattle.ports.specs.Pages.{isSet, hasPaging, ulaLines, selectLines, Heard, pageWrite, ula, register, nobody, pageRead, readAlsoPages, keyUp, columnUp, pageKeyBit, Keyboard}
+use Rattle.ports.specs.Terms.{heardBy, writeParts, isFitted, asAnswer}
 use Rattle.ports.proofs.Rows.{rows-byte}
 use Rattle.ports.proofs.Bits.{bit-off, bit-and, toggles}
 use Rattle.ports.proofs.Classes.{even-lines, select-lines, data-lines, paging-lines}
@@ -62,9 +64,14 @@ byLines pages a0 a1 a14 a15 =
     (cond (not a0) written.Border
     (cond (not a15 && not a1 && pages) written.Paging written.Nothing)))
 
-by-lines : (m : ZXMachine) (port : ℕ) → portOrder m port ≡ byLines (has7ffd m) (isSet 0 port) (isSet 1 port) (isSet 14 port) (isSet 15 port)
+-- the machine that has 7FFDh is the same by both
+pub paging-machines : (m : ZXMachine) → has7ffd m ≡ hasPaging m
+paging-machines Sinclair48K = refl
+paging-machines Sinclair128K = refl
+
+by-lines : (m : ZXMachine) (port : ℕ) → portOrder m port ≡ byLines (hasPaging m) (isSet 0 port) (isSet 1 port) (isSet 14 port) (isSet 15 port)
 unfolding portOrder byLines
-by-lines m port = rw (select-lines port, data-lines port, even-lines port, paging-lines port)
+by-lines m port = rw (select-lines port, data-lines port, even-lines port, paging-lines port, paging-machines m)
 
 heardLines : Bool → Bool → Bool → Bool → Bool → Bool → Heard
 heardLines pages fitted a0 a1 a14 a15 =
@@ -92,7 +99,7 @@ writes-tell : (m : ZXMachine) (fitted : Bool) (port : ℕ) → sameHeard (heardB
 unfolding heardLines partLines
 writes-tell m fitted port =
     rw (by-lines m port)
-    (lines-tell (has7ffd m) fitted (isSet 0 port) (isSet 1 port) (isSet 14 port) (isSet 15 port))
+    (lines-tell (hasPaging m) fitted (isSet 0 port) (isSet 1 port) (isSet 14 port) (isSet 15 port))
 
 module _ (m : ZXMachine) (fitted : Bool) (port : ℕ) where
   -- outside `writeParts` a write is heard by exactly those whom the pages name
@@ -168,12 +175,18 @@ ay-inner : (a : Ay) (t : Bool) → cond t (ayByte a) Floating ≡ cond (isFitted
 ay-inner ay.Absent t = cond-same t Floating
 ay-inner (ay.Present byte) t = refl
 
+answered : (a : Ay) (keys : ℕ) (t u : Bool) → asAnswer a keys (cond t ula (cond u register nobody)) ≡ cond t (Value keys) (cond u (ayByte a) Floating)
+answered a keys true u = refl
+answered a keys false true = refl
+answered a keys false false = refl
+
 -- with no extender, mouse or joystick, which no page knows, a read is answered by the device that the pages name
 pub reads-agree : (d : Devices) (port : ℕ) → d .extender ≡ extender.Absent → d .mouse ≡ mouse.Absent → d .joystick ≡ joystick.Absent
-    → readOrder d port ≡ pageRead (d .ay) (keysRead (d .rows) (d .tape) port) port
+    → readOrder d port ≡ asAnswer (d .ay) (keysRead (d .rows) (d .tape) port) (pageRead (isFitted (d .ay)) port)
 unfolding readOrder
 reads-agree d port e m j =
     rw (e, m, j, even-lines port, select-lines port, ay-inner (d .ay) (selectLines port))
+    (sym (answered (d .ay) (keysRead (d .rows) (d .tape) port) (ulaLines port) (isFitted (d .ay) && selectLines port)))
 
 -- the ports whose read pages by the 128K page, and never by document 01, are those whose odd ones page when written
 pub read-pages : (port : ℕ) → readAlsoPages Sinclair128K port ≡ pagingPort port

@@ -5,5 +5,6 @@ pub mod Classes
 pub mod Bools
 pub mod Agree
 pub mod Fetches
+pub mod BlockClocks
 pub mod Keyboards
 pub mod Ignored

@@ -3,3 +3,4 @@ pub mod Keys
 pub mod Order
 pub mod Floating
 pub mod Pages
+pub mod Terms

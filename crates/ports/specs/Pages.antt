@@ -1,8 +1,9 @@
 -- Ports, keys and the floating bus as the public 48K and 128K reference pages tell them: by single address lines, each device decoded by
 -- itself, and with T-states counted one after the other, where document 01 has masks, an order and a division. What no page states says so.
--- At the end document 01's answers are put in the same terms.
+-- Nothing of document 01 stands here: of other crates it takes the names of the two machines and what their own `Pages` say. What 01 says in
+-- the same terms, and where the two part, is in specs/Terms.
 -- Assumes nothing.
-use Prim.Native.Nat.{ℕ, zero, suc, _+_, _-_, _*_, _≤_, _<_}
+use Prim.Native.Nat.{ℕ, zero, suc, _+_, _-_, _≤_, _<_}
 use mathlib.Core.Path.{_≡_}
 use mathlib.Core.Bool.{Bool, true, false, cond, not, _&&_, _||_}
 use mathlib.Core.List.{List}
@@ -10,22 +11,8 @@ use lib.Dec.{ltb, eqb}
 use lib.ListN.{getD}
 use Rattle.machine.specs.declared.ZXMachine.{ZXMachine}
 use Rattle.machine.specs.declared.ZXMachine.the-variants.{Sinclair48K, Sinclair128K}
-use Rattle.machine.specs.Numbers.{specsOf}
-use Rattle.machine.specs.Pages.{Page, pageOf, readShift}
-use Rattle.ports.specs.declared.Ay.{Ay}
-use Rattle.ports.specs.declared.Ay.the-variants as ay
-use Rattle.ports.specs.declared.Answer.{Answer}
-use Rattle.ports.specs.declared.Answer.the-variants.{Value, Floating}
-use Rattle.ports.specs.declared.Written.{Written}
-use Rattle.ports.specs.declared.Written.the-variants as written
-use Rattle.ports.specs.declared.FloatingPlace.{FloatingPlace}
-use Rattle.ports.specs.declared.FloatingPlace.the-variants.{Idle, Bitmap, Attribute}
-use Rattle.ports.specs.declared.FloatingAddress.{FloatingAddress}
-use Rattle.ports.specs.declared.FloatingAddress.the-variants as address
-use Rattle.offsets.specs.Pages.{displayAddress, colourAddress}
-use Rattle.ports.specs.Keys.{bit}
-use Rattle.ports.specs.Order.{ayByte, has7ffd}
-use Rattle.ports.specs.Floating.{floatingPlace, floatingAddress}
+use Rattle.machine.specs.Pages.{Page, pageOf, laps}
+use Rattle.offsets.specs.Pages.{bit, displayAddress, colourAddress}
 
 -- bit k of a number is 1: address line k of a port, or bit k of a byte
 abbrev pub isSet : ℕ → ℕ → Bool
@@ -36,7 +23,12 @@ isSet k n = eqb (bit k n) 1
 abbrev pub ulaLines : ℕ → Bool
 ulaLines port = not (isSet 0 port)
 
--- 7FFDh: any port with A15 and A1 reset
+-- 7FFDh, which the 128K page alone has
+abbrev pub hasPaging : ZXMachine → Bool
+hasPaging Sinclair48K = false
+hasPaging Sinclair128K = true
+
+-- it answers any port with A15 and A1 reset
 abbrev pub pagingLines : ℕ → Bool
 pagingLines port = not (isSet 15 port) && not (isSet 1 port)
 
@@ -60,24 +52,26 @@ abbrev pub pageWrite : ZXMachine → Bool → ℕ → Heard
 pageWrite m fitted port =
     record {
       border = ulaLines port;
-      paging = has7ffd m && pagingLines port;
+      paging = hasPaging m && pagingLines port;
       select = fitted && selectLines port;
       writes = fitted && dataLines port;
     }
 
 -- ---- reads
-abbrev pub isFitted : Ay → Bool
-isFitted ay.Absent = false
-isFitted (ay.Present byte) = true
+-- who answers: the ULA with the keys, the AY with its selected register, or no device, and then the floating bus is read
+pub data Answerer : Type 0 where
+  ula : Answerer
+  register : Answerer
+  nobody : Answerer
 
 -- the ULA answers at its ports, the AY at its own, and where no device answers the floating bus is read. Where both answer the pages do
 -- not say what is read; the ULA's byte is put first here.
-abbrev pub pageRead : Ay → ℕ → ℕ → Answer
-pageRead a keys port = cond (ulaLines port) (Value keys) (cond (isFitted a && selectLines port) (ayByte a) Floating)
+abbrev pub pageRead : Bool → ℕ → Answerer
+pageRead fitted port = cond (ulaLines port) ula (cond (fitted && selectLines port) register nobody)
 
 -- on 128K a read of a paging port also writes 7FFDh, with what the bus holds
 abbrev pub readAlsoPages : ZXMachine → ℕ → Bool
-readAlsoPages m port = has7ffd m && pagingLines port
+readAlsoPages m port = hasPaging m && pagingLines port
 
 -- ---- keys: bits 0 to 4 are the keys of the half rows whose high address bit is 0, all of them together; bit 6 is the EAR input; bits 5 and
 -- 7 are set
@@ -99,69 +93,64 @@ abbrev pub Keyboard : List ℕ → Type 0
 Keyboard rows = (k : ℕ) → k < 24 → (b : ℕ) → 5 ≤ b → b < 8 → isSet b (getD rows k 0) ≡ true
 
 -- ---- the floating bus: within each 8 T-states bitmap, attribute, bitmap, attribute for two columns, then four idle T-states
+-- what the ULA fetches at a T-state: nothing, or a byte of a line of the picture and a column
+pub data Fetch : Type 0 where
+  idle : Fetch
+  bitmapByte : ℕ → ℕ → Fetch
+  attributeByte : ℕ → ℕ → Fetch
+
 -- what is fetched x T-states into k such groups, of which the next starts at a column
-unfoldable pub groups : ℕ → ℕ → ℕ → ℕ → FloatingPlace
-groups zero row column x = Idle
-groups (suc k) row column zero = Bitmap row column
-groups (suc k) row column (suc zero) = Attribute row column
-groups (suc k) row column (suc (suc zero)) = Bitmap row (column + 1)
-groups (suc k) row column (suc (suc (suc zero))) = Attribute row (column + 1)
-groups (suc k) row column (suc (suc (suc (suc zero)))) = Idle
-groups (suc k) row column (suc (suc (suc (suc (suc zero))))) = Idle
-groups (suc k) row column (suc (suc (suc (suc (suc (suc zero)))))) = Idle
-groups (suc k) row column (suc (suc (suc (suc (suc (suc (suc zero))))))) = Idle
+unfoldable pub groups : ℕ → ℕ → ℕ → ℕ → Fetch
+groups zero row column x = idle
+groups (suc k) row column zero = bitmapByte row column
+groups (suc k) row column (suc zero) = attributeByte row column
+groups (suc k) row column (suc (suc zero)) = bitmapByte row (column + 1)
+groups (suc k) row column (suc (suc (suc zero))) = attributeByte row (column + 1)
+groups (suc k) row column (suc (suc (suc (suc zero)))) = idle
+groups (suc k) row column (suc (suc (suc (suc (suc zero))))) = idle
+groups (suc k) row column (suc (suc (suc (suc (suc (suc zero)))))) = idle
+groups (suc k) row column (suc (suc (suc (suc (suc (suc (suc zero))))))) = idle
 groups (suc k) row column (suc (suc (suc (suc (suc (suc (suc (suc x)))))))) = groups k row (column + 2) x
 
 -- k lines of the picture, of which the next is `row` and starts at T-state `start`: sixteen groups, and nothing till the next line
-unfoldable pub fetches : ℕ → ℕ → ℕ → ℕ → ℕ → FloatingPlace
-fetches zero row start perLine t = Idle
+unfoldable pub fetches : ℕ → ℕ → ℕ → ℕ → ℕ → Fetch
+fetches zero row start perLine t = idle
 fetches (suc k) row start perLine t =
-    cond (ltb t start) Idle
+    cond (ltb t start) idle
     (cond (ltb t (start + perLine)) (groups 16 row 0 (t - start)) (fetches k (suc row) (start + perLine) perLine t))
 
--- On 48K the first bitmap byte is seen at 14,338, which is two T-states after the first byte is due. For 128K no page states the
+-- 48K: "The first bitmap byte is seen at 14,338", which is two T-states after the first byte is due at 14,336. For 128K no page states the
 -- T-state; the same two T-states are taken.
-abbrev pub pageFloating : Page → ℕ → FloatingPlace
-pageFloating p t = fetches 192 0 (p .firstByte + readShift) (p .perLine) t
+abbrev pub firstFetch : Page → ℕ
+firstFetch p = p .firstByte + 2
+
+abbrev pub pageFloating : Page → ℕ → Fetch
+pageFloating p t = fetches 192 0 (firstFetch p) (p .perLine) t
+
+-- The same order asked the other way round: the T-state at which a column's bitmap byte is fetched in a line whose groups start at T-state
+-- `start`. The second column of a group comes two T-states behind the first, and each group eight behind the one before.
+unfoldable pub bitmapIn : ℕ → ℕ → ℕ
+bitmapIn start zero = start
+bitmapIn start (suc zero) = start + 2
+bitmapIn start (suc (suc column)) = bitmapIn (start + 8) column
+
+-- the T-states of the frame at which the two bytes of a line's column are fetched: the attribute follows its bitmap byte
+abbrev pub bitmapAt : Page → ℕ → ℕ → ℕ
+bitmapAt p row column = bitmapIn (firstFetch p + laps row (p .perLine)) column
+
+abbrev pub attributeAt : Page → ℕ → ℕ → ℕ
+attributeAt p row column = bitmapAt p row column + 1
 
 -- a byte of a RAM page that the bus shows, or nothing: an offset in the display file of the page
 pub data Seen : Type 0 where
   nothing : Seen
   byteOf : ℕ → ℕ → Seen
 
-abbrev pub seenIn : ℕ → FloatingPlace → Seen
-seenIn page Idle = nothing
-seenIn page (Bitmap row column) = byteOf page (displayAddress row column - 0x4000)
-seenIn page (Attribute row column) = byteOf page (colourAddress row column - 0x4000)
+abbrev pub seenIn : ℕ → Fetch → Seen
+seenIn page idle = nothing
+seenIn page (bitmapByte row column) = byteOf page (displayAddress row column - 0x4000)
+seenIn page (attributeByte row column) = byteOf page (colourAddress row column - 0x4000)
 
 -- the floating bus follows the shown bank
 abbrev pub pageSeen : ZXMachine → ℕ → ℕ → Seen
 pageSeen m shown t = seenIn shown (pageFloating (pageOf m) t)
-
--- ---- document 01's answers in the same terms, and the ports at which a write parts from the pages
--- who of the pages' devices hears a write by document 01: at most one
-abbrev pub heardBy : Written → Heard
-heardBy written.Extender = record { border = false; paging = false; select = false; writes = false }
-heardBy written.AySelect = record { border = false; paging = false; select = true; writes = false }
-heardBy written.AyWrite = record { border = false; paging = false; select = false; writes = true }
-heardBy written.Border = record { border = true; paging = false; select = false; writes = false }
-heardBy written.Paging = record { border = false; paging = true; select = false; writes = false }
-heardBy written.Nothing = record { border = false; paging = false; select = false; writes = false }
-
--- A1 is reset, and either A15 is set and the port is even or no AY is fitted, or A15 is reset, the port is even and the machine pages
-abbrev pub writeParts : ZXMachine → Bool → ℕ → Bool
-writeParts m fitted port =
-    not (isSet 1 port) && cond (isSet 15 port) (not (isSet 0 port) || not fitted) (not (isSet 0 port) && has7ffd m)
-
--- the RAM page at 4000h, which is block 1: "48K blocks 1 to 3 are RAM 0, 1, 2. On 128K they are RAM 5, 2 and .."
-abbrev pub pageAt4000 : ZXMachine → ℕ
-pageAt4000 Sinclair48K = 0
-pageAt4000 Sinclair128K = 5
-
-abbrev pub seenAt : ℕ → FloatingAddress → Seen
-seenAt page address.Idle = nothing
-seenAt page (address.At a) = byteOf page (a - 0x4000)
-
--- "the floating bus always reads through 4000h": the shown page has no part in it
-abbrev pub documentSeen : ZXMachine → ℕ → Seen
-documentSeen m t = seenAt (pageAt4000 m) (floatingAddress (floatingPlace (specsOf m) t))
