@@ -4,3 +4,8 @@ pub mod Refusals
 pub mod Parts
 pub mod Sound
 pub mod Map
+pub mod Calls
+pub mod Lending
+pub mod Wholes
+pub mod Acts
+pub mod AsWhole

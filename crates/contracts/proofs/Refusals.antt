@@ -32,6 +32,7 @@ use Rattle.answers.specs.Order.{Ordered, Numbered, documentOrder, numbersOf, st
 use Rattle.answers.proofs.Order.{by-list, state-ordered, wait-ordered, port-ordered, told-ordered, read-ordered, write-ordered, load-ordered, ram-page-told-ordered, block-told-ordered, shown-told-ordered, still-ordered}
 use Rattle.contracts.specs.Timed.{Lent, Outcome, timed, judgeWaitOf, judgePortOf, waitInternal, waitAt, readIo, writeIo, lentBy, startFitsOf, Started, startLeaves, start}
 use Rattle.contracts.specs.Plain.{codeOf, Told, told, tell, Changed, change, Repaged, repage, readInternal, writeInternal, write7ffdCall, read7ffd, intActive, framesCount, resetFrames, loadPage, stillPicture, ramPageTold, blockTold, shownTold}
+use Rattle.contracts.specs.Calls.{startCauses, helperCauses}
 use Rattle.contracts.specs.Helpers.{help, helperCall, colorHelped, bitmapLineAddr, bitmapLineRel, bitmapColRel, attrRowRel, attrColRel, colorFromBits}
 
 -- ---- numbers: a refusal is known by its number, which is not 0
@@ -261,10 +262,7 @@ left-alone answer n e = rw e
 two-numbered : (causes : List Cause) (code : ℕ) (bus : Bus) → code ≡ codeOf (judged causes bus) → standIn (numbersOf causes) documentOrder ≡ true → Numbered code causes
 two-numbered causes code bus c s = numbered (judged causes bus) causes bus code c (by-list (judged causes bus) causes bus refl s)
 
--- ---- start: "start: machine above 1", then the lengths; the record is not judged
-abbrev pub startCauses : Lent → ℕ → List Cause
-startCauses l machine = cause BadMachine (ltb 1 machine) ∷ unless (startFitsOf (machineOf machine) l) ∷ []
-
+-- ---- start
 module _ (l new : Lent) where
   abbrev startBy : Bool → Bool → Started
   startBy s t = cond s (startLeaves (refusalNumber BadMachine) l) (cond t (startLeaves 0 new) (startLeaves (refusalNumber BadLength) l))
@@ -292,10 +290,7 @@ start-unaltered l machine n =
     let m = machineOf machine in
     start-kept l (lentBy m (started m)) (ltb 1 machine) (startFitsOf m l) n
 
--- ---- the helpers: the answer's length, then 8, "a helper's number outside its range"
-abbrev pub helperCauses : Bool → List ℕ → List Cause
-helperCauses within answer = unless (numberFits (length answer)) ∷ cause BadNumber (not within) ∷ []
-
+-- ---- the helpers
 -- a helper that answers within its range only
 abbrev ranged : Bool → ℕ → Helped
 ranged t k = cond t (helped.Number k) helped.OutOfRange

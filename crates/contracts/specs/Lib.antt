@@ -2,3 +2,4 @@ pub mod Timed
 pub mod Plain
 pub mod Helpers
 pub mod Map
+pub mod Calls

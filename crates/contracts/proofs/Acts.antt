@@ -1,0 +1,258 @@
+-- FROM BYTES TO OPERATIONS: an accepted call on the buffers of a sound machine leaves, byte for byte, the world after its operations, which is
+-- sound again and has its lengths.
+-- Assumes nothing.
+use Prim.Native.Nat.{ℕ, _+_, _*_, _≤_, _<_}
+use mathlib.Core.Bool.{Bool, true, false, cond}
+use mathlib.Core.List.{List, [], _∷_}
+use mathlib.Core.Path.{_≡_, refl, sym, _∙_, ap, subst}
+use native.Mathlib.Omega.{arith}
+use lib.Dec.{eqb}
+use lib.ListN.{length}
+use borrow.Author.Tests.{eqb-true, eqb-false, ltb-false, not-false}
+use Rattle.laws.proofs.Cases.{by-bool}
+use Rattle.laws.proofs.Conjunction.{each}
+use Rattle.machine.specs.declared.ZXMachine.{ZXMachine}
+use Rattle.machine.specs.declared.ZXMachine.the-variants.{Sinclair48K, Sinclair128K}
+use Rattle.machine.specs.Numbers.{specsOf}
+use Rattle.machine.specs.Timing.{interrupt}
+use Rattle.record.specs.declared.Bus.{Bus}
+use Rattle.record.specs.Record.{recordBytes, recordOf}
+use Rattle.memory.specs.declared.Place.{Place}
+use Rattle.memory.specs.declared.Place.the-variants as place
+use Rattle.memory.specs.declared.Paged.{Paged}
+use Rattle.memory.specs.declared.Paged.the-variants as paging
+use Rattle.memory.specs.Paging.{bitSet, write7ffd, pagingAfter, pageExists}
+use Rattle.memory.specs.Memory.{placeOf, pokedIn, poked, loaded}
+use Rattle.memory.proofs.Places.{exists-fits}
+use Rattle.ports.specs.Devices.{devicesOf}
+use Rattle.bus.specs.World.{Core, World, busOf}
+use Rattle.bus.specs.Time.{Op, paged, poke, load, unpass, inCore, inScreen, inEdge, worldAfter}
+use Rattle.bus.specs.Turns.{clocksOf, Part, ran, fresh, ranBy}
+use Rattle.bus.specs.Calls.{repaged}
+use Rattle.bus.specs.Pokes.{poking}
+use Rattle.bus.proofs.Runs.{clocksIn, blocksIn, closedIn, ran-is, ran-world, fresh-blocks}
+use Rattle.bus.proofs.TimedCalls.{Timed, plain-timed, address-timed, read-timed, write-timed}
+use Rattle.bus.proofs.Lengths.{SameLengths, Fits, lengths-kept, call-lengths}
+use Rattle.bus.proofs.Kept.{SoundWorld, InRange, op-kept, call-kept}
+use Rattle.bus.proofs.Reports.{call-fits}
+use Rattle.answers.specs.declared.Verdict.{Verdict}
+use Rattle.answers.specs.declared.Verdict.the-variants.{Refused, Accepted}
+use Rattle.answers.specs.Judges.{ramFits, judgeState, judgeTold, judgeWrite, judgeLoad}
+use Rattle.answers.specs.Answers.{timedAnswer}
+use Rattle.answers.specs.Order.{NoneHolds}
+use Rattle.answers.proofs.Order.{state-ordered, wait-ordered, port-ordered, told-ordered, write-ordered, load-ordered}
+use Rattle.contracts.specs.Timed.{Lent, lentBy, Outcome, outcome, timed, timedEnd, judgeWaitOf, judgePortOf, waitInternal, waitAt, readIo, writeIo}
+use Rattle.contracts.specs.Plain.{change, repage, withPaging, withPassed, writeInternal, write7ffdCall, resetFrames, loadPage}
+use Rattle.contracts.specs.Calls.{TimedCall, plain, mreq, noMreq, portIn, portOut, Call, startAgain, timedCall, writeByte, writePaging, resetPassed, loadRam, ask, Result, withRam, withState, waited, partOf, valueOf, opsOf, replied, performed, timedCauses, causesOf, Typed, Sized}
+use Rattle.contracts.proofs.Wholes.{record-of}
+
+-- a second start is none of these calls
+abbrev pub NoStart : Call → Type 0
+NoStart (startAgain machine) = ⊥
+NoStart (timedCall t answer) = Unit {0}
+NoStart (writeByte addr value) = Unit {0}
+NoStart (writePaging value answer) = Unit {0}
+NoStart resetPassed = Unit {0}
+NoStart (loadRam bytes page) = Unit {0}
+NoStart (ask q out) = Unit {0}
+
+-- what operations keep of a world
+pub record Kept (m : ZXMachine) (os : List Op) (w : World) : Type 0 where
+  pub sound : SoundWorld m (worldAfter m os w)
+  pub lengths : SameLengths w (worldAfter m os w)
+  pub brief : clocksIn os ≤ 65541
+
+-- a 7FFD byte is taken on 128K only, and then it is the byte that was written
+abbrev Takes : ZXMachine → ℕ → Paged → Type 0
+Takes m v p = (u : ℕ) → p ≡ paging.Taken u → (u ≡ v) × (m ≡ Sinclair128K)
+
+takes : (m : ZXMachine) (held v : ℕ) → Takes m v (write7ffd m held v)
+unfolding write7ffd
+takes Sinclair48K held v = λ u e. let z : _≡_ {A = ℕ} 0 1 = cc in absurd (omega (arith, z))
+takes Sinclair128K held v =
+    by-bool (Takes Sinclair128K v) (bitSet 5 held)
+    (λ b u e. let z : _≡_ {A = ℕ} 0 1 = cc in absurd (omega (arith, z)))
+    (λ b u e. (cc, refl))
+
+module _ (m : ZXMachine) (w : World) (sound : SoundWorld m w) (sized : Sized m w) where
+  abbrev l : Lent
+  l = lentBy m w
+
+  abbrev here : recordOf (l .state) ≡ busOf m w
+  here = record-of m w sound sized
+
+  -- ---- timed calls
+  module _ (t : TimedCall) (answer : List ℕ) (h : NoneHolds (timedCauses t l answer)) where
+    -- an accepted timed call is its operations
+    waited-is : waited t l answer ≡ timedEnd (ranBy (partOf t m) (fresh m w)) (valueOf t m (w .core))
+    unfolding waited waitInternal waitAt readIo writeIo timed
+    waited-is = by t h where
+      wait : (k : ℕ) → NoneHolds (timedCauses (plain k) l answer) → judgeWaitOf l k answer ≡ Accepted (busOf m w)
+      wait k h = wait-ordered (l .state) (length (l .ram)) (length (l .a)) (length (l .b)) (length (l .border)) k (length answer) .noneAccepts h ∙ ap Accepted here
+
+      port : (devices : List ℕ) → NoneHolds (timedCauses (portIn devices 0) l answer) → judgePortOf l devices answer ≡ Accepted (busOf m w)
+      port devices h = port-ordered (l .state) devices (length (l .ram)) (length (l .a)) (length (l .b)) (length (l .border)) (length answer) .noneAccepts h ∙ ap Accepted here
+
+      by : (t : TimedCall) → NoneHolds (timedCauses t l answer) → waited t l answer ≡ timedEnd (ranBy (partOf t m) (fresh m w)) (valueOf t m (w .core))
+      by (plain k) h = ap (timed (partOf (plain k)) (valueOf (plain k)) l answer) (wait k h)
+      by (mreq addr k) h = ap (timed (partOf (mreq addr k)) (valueOf (mreq addr k)) l answer) (wait k h)
+      by (noMreq addr k) h = ap (timed (partOf (noMreq addr k)) (valueOf (noMreq addr k)) l answer) (wait k h)
+      by (portIn devices port′) h = ap (timed (partOf (portIn devices port′)) (valueOf (portIn devices port′)) l answer) (port devices h)
+      by (portOut devices port′ value) h = ap (timed (partOf (portOut devices port′ value)) (valueOf (portOut devices port′ value)) l answer) (port devices h)
+
+    -- of operations of a timed call, within refusal 5's limit
+    part-timed : Typed (timedCall t answer) → Timed m (partOf t m)
+    part-timed typed = by t h typed where
+      by : (t : TimedCall) → NoneHolds (timedCauses t l answer) → Typed (timedCall t answer) → Timed m (partOf t m)
+      by (plain k) h typed = plain-timed m k (omega (arith, ltb-false 65535 k (h .1 .1 .1 .0)))
+      by (mreq addr k) h typed = address-timed m addr k (ltb-false 65535 k (h .1 .1 .1 .0))
+      by (noMreq addr k) h typed = address-timed m addr k (ltb-false 65535 k (h .1 .1 .1 .0))
+      by (portIn devices port) h typed = read-timed m port
+      by (portOut devices port value) h typed = write-timed m (devicesOf devices) port value (typed .1)
+
+    -- with passed frames that have room
+    room-left : w .core .passed < 4294967295
+    room-left = by t h where
+      less : (bus : Bus) → bus ≡ busOf m w → eqb (bus .passed) 4294967295 ≡ false → w .core .passed < 4294967295
+      less bus e f = let z = eqb-false (bus .passed) 4294967295 f in let same : bus .passed ≡ w .core .passed = ap (λ (b : Bus). b .passed) e in omega (arith, sound .passed, same)
+
+      by : (t : TimedCall) → NoneHolds (timedCauses t l answer) → w .core .passed < 4294967295
+      by (plain k) h = less (recordOf (l .state)) here (h .1 .1 .1 .1 .0)
+      by (mreq addr k) h = less (recordOf (l .state)) here (h .1 .1 .1 .1 .0)
+      by (noMreq addr k) h = less (recordOf (l .state)) here (h .1 .1 .1 .1 .0)
+      by (portIn devices port) h = less (recordOf (l .state)) here (h .1 .1 .1 .1 .0)
+      by (portOut devices port value) h = less (recordOf (l .state)) here (h .1 .1 .1 .1 .0)
+
+    abbrev os : List Op
+    os = partOf t m (w .core)
+
+    pub timed-kept : Typed (timedCall t answer) → Kept m os w
+    timed-kept typed =
+        let same = ran-world os (fresh m w) in
+        let timed = part-timed typed in
+        record {
+          sound = subst (SoundWorld m) same (call-kept m (partOf t m) timed w sound room-left);
+          lengths = subst (SameLengths w) same (call-lengths m (partOf t m) timed w);
+          brief = timed .brief (w .core);
+        }
+
+    -- WHAT AN ACCEPTED TIMED CALL LEAVES: the world after its operations, and their report.
+    pub timed-left : waited t l answer
+        ≡ outcome 0 (lentBy m (worldAfter m os w))
+        (timedAnswer (valueOf t m (w .core)) (closedIn m os (w .core)) (interrupt (worldAfter m os w .core .clock)) (0 + clocksIn os) (0 + blocksIn m os w))
+    timed-left = waited-is ∙ ap (λ turn. timedEnd turn (valueOf t m (w .core))) (ran-is os (fresh m w))
+
+    pub few-blocks : Typed (timedCall t answer) → blocksIn m os w ≤ 12288
+    few-blocks typed = rw (fresh-blocks os m w) at (call-fits m (partOf t m) (part-timed typed) w sound .1)
+
+  -- ---- calls that take no time
+  no-lengths : SameLengths w w
+  no-lengths = record { ram = refl; a = refl; b = refl; pixels = refl }
+
+  none-kept : Kept m [] w
+  unfolding worldAfter clocksIn
+  none-kept = record { sound = sound; lengths = no-lengths; brief = omega arith }
+
+  one-kept : (o : Op) → InRange m o → Fits o w → clocksOf o ≡ 0 → Kept m (o ∷ []) w
+  unfolding worldAfter clocksIn
+  one-kept o r f z =
+      record {
+        sound = op-kept m o w sound r (omega (arith, sound .clock)) (λ h. absurd (omega (arith, sound .clock)));
+        lengths = lengths-kept m o w f;
+        brief = omega arith;
+      }
+
+  -- what an accepted call leaves of the machine
+  pub record Acted (k : Call) : Type 0 where
+    pub slices : performed k l .slices ≡ lentBy m (worldAfter m (opsOf m k (w .core)) w)
+    pub kept : Kept m (opsOf m k (w .core)) w
+
+  poke-kept : (p : Place) (value : ℕ) → Kept m (poking p value) w
+  unfolding clocksOf
+  poke-kept (place.Rom at) value = none-kept
+  poke-kept (place.Ram at) value = one-kept (poke at value) tt tt refl
+
+  poke-world : (p : Place) (value : ℕ) → withRam l (pokedIn p (w .core .ram) value) ≡ lentBy m (worldAfter m (poking p value) w)
+  unfolding worldAfter inCore inScreen inEdge
+  poke-world (place.Rom at) value = refl
+  poke-world (place.Ram at) value = refl
+
+  write-acted : (addr value : ℕ) → NoneHolds (causesOf (writeByte addr value) l) → Acted (writeByte addr value)
+  unfolding performed opsOf writeInternal
+  write-acted addr value h =
+      let p = placeOf m (w .core .paging) addr in
+      let new : Bus → List ℕ = λ bus. poked (bus .machine) (bus .paging) (w .core .ram) addr value in
+      record {
+        slices =
+            ap (λ (v : Verdict). withRam l (change new (w .core .ram) v .slice)) (write-ordered (l .state) (length (l .ram)) .noneAccepts h ∙ ap Accepted here)
+            ∙ poke-world p value;
+        kept = poke-kept p value;
+      }
+
+  load-fits : (bytes : List ℕ) (page : ℕ) → NoneHolds (causesOf (loadRam bytes page) l) → (length bytes ≡ 16384) × (16384 * page + 16384 ≤ length (w .core .ram))
+  load-fits bytes page h =
+      let fit = each (ramFits (recordOf (l .state)) (length (l .ram))) (eqb (length bytes) 16384 ∷ []) (not-false _ (h .1 .1 .0)) in
+      let there = exists-fits m page (ap (λ (b : Bus). pageExists (b .machine) page) (sym here) ∙ not-false _ (h .1 .1 .1 .0)) in
+      (eqb-true (length bytes) 16384 (fit 1), omega (arith, there, sized .ram))
+
+  load-world : (bytes : List ℕ) (page : ℕ) → withRam l (loaded page bytes (w .core .ram)) ≡ lentBy m (worldAfter m (load page bytes ∷ []) w)
+  unfolding worldAfter inCore inScreen inEdge
+  load-world bytes page = refl
+
+  load-acted : (bytes : List ℕ) (page : ℕ) → NoneHolds (causesOf (loadRam bytes page) l) → Acted (loadRam bytes page)
+  unfolding performed opsOf loadPage clocksOf
+  load-acted bytes page h =
+      let new : Bus → List ℕ = λ bus. loaded page bytes (w .core .ram) in
+      record {
+        slices =
+            ap (λ (v : Verdict). withRam l (change new (w .core .ram) v .slice)) (load-ordered (l .state) (length (l .ram)) (length bytes) page .noneAccepts h)
+            ∙ load-world bytes page;
+        kept = one-kept (load page bytes) tt (load-fits bytes page h) refl;
+      }
+
+  reset-world : withState l (recordBytes (withPassed 0 (busOf m w))) ≡ lentBy m (worldAfter m (unpass ∷ []) w)
+  unfolding worldAfter inCore inScreen inEdge
+  reset-world = refl
+
+  reset-acted : NoneHolds (causesOf resetPassed l) → Acted resetPassed
+  unfolding performed opsOf resetFrames clocksOf
+  reset-acted h =
+      let new : Bus → List ℕ = λ bus. recordBytes (withPassed 0 bus) in
+      record {
+        slices = ap (λ (v : Verdict). withState l (change new (l .state) v .slice)) (state-ordered (l .state) .noneAccepts h ∙ ap Accepted here) ∙ reset-world;
+        kept = one-kept unpass tt tt refl;
+      }
+
+  paged-world : (p : Paged) → withState l (recordBytes (withPaging (pagingAfter p (w .core .paging)) (busOf m w))) ≡ lentBy m (worldAfter m (repaged p) w)
+  unfolding worldAfter inCore inScreen inEdge
+  paged-world paging.Absent = refl
+  paged-world paging.Locked = refl
+  paged-world (paging.Taken v) = refl
+
+  paged-kept : (v : ℕ) → v < 256 → (p : Paged) → Takes m v p → Kept m (repaged p) w
+  unfolding clocksOf
+  paged-kept v h paging.Absent f = none-kept
+  paged-kept v h paging.Locked f = none-kept
+  paged-kept v h (paging.Taken u) f = let g = f u refl in one-kept (paged u) (omega (arith, g .0), g .1) tt refl
+
+  paging-acted : (v : ℕ) (answer : List ℕ) → v < 256 → NoneHolds (causesOf (writePaging v answer) l) → Acted (writePaging v answer)
+  unfolding performed opsOf write7ffdCall
+  paging-acted v answer byte h =
+      let p = write7ffd m (w .core .paging) v in
+      record {
+        slices =
+            ap (λ (x : Verdict). withState l (repage v (l .state) answer x .state)) (told-ordered (l .state) (length answer) .noneAccepts h ∙ ap Accepted here)
+            ∙ paged-world p;
+        kept = paged-kept v byte p (takes m (w .core .paging) v);
+      }
+
+  -- EVERY ACCEPTED CALL, whichever it is.
+  pub acted : (k : Call) → NoStart k → Typed k → NoneHolds (causesOf k l) → Acted k
+  unfolding opsOf performed worldAfter
+  acted (startAgain machine) first typed h = absurd first
+  acted (timedCall t answer) first typed h = record { slices = ap (λ (o : Outcome). o .slices) (timed-left t answer h); kept = timed-kept t answer h typed }
+  acted (writeByte addr value) first typed h = write-acted addr value h
+  acted (writePaging value answer) first typed h = paging-acted value answer typed h
+  acted resetPassed first typed h = reset-acted h
+  acted (loadRam bytes page) first typed h = load-acted bytes page h
+  acted (ask q out) first typed h = record { slices = refl; kept = none-kept }

@@ -1,0 +1,103 @@
+-- WHATEVER IS LENT: an accepted call does to the machine's buffers what it does when it is lent them whole, and answers the same; a refused one
+-- leaves them as they were.
+-- Assumes nothing.
+use Prim.Native.Nat.{ℕ}
+use mathlib.Core.List.{List, [], _∷_}
+use mathlib.Core.Path.{_≡_, refl, sym, _∙_, ap, subst}
+use lib.ListN.{length}
+use borrow.Author.Tests.{not-false, eqb-true}
+use Rattle.laws.proofs.Conjunction.{each}
+use Rattle.machine.specs.declared.ZXMachine.{ZXMachine}
+use Rattle.record.specs.Record.{recordLength, recordOf}
+use Rattle.bus.specs.World.{World}
+use Rattle.bus.specs.Time.{worldAfter}
+use Rattle.bus.proofs.Kept.{SoundWorld}
+use Rattle.answers.specs.Judges.{ramFits}
+use Rattle.answers.specs.Order.{NoneHolds}
+use Rattle.contracts.specs.Timed.{Lent, lentBy}
+use Rattle.contracts.specs.Plain.{Told, Changed, Repaged, writeInternal, write7ffdCall, resetFrames, loadPage}
+use Rattle.contracts.specs.Calls.{Call, startAgain, timedCall, writeByte, writePaging, resetPassed, loadRam, ask, Result, result, withRam, withState, opsOf, replied, performed, causesOf, refusedFilled, Typed, Portions, lentOf, handedBack, Sized, Made, buffersAfter}
+use Rattle.contracts.proofs.Calls.{call-numbered, call-refused}
+use Rattle.contracts.proofs.Lending.{untouched, ram-changed, state-changed, lent-whole, handed-whole}
+use Rattle.contracts.proofs.Wholes.{timed-whole, reply-whole, state-whole, bus-is, ram-long, ram-whole}
+use Rattle.contracts.proofs.Acts.{NoStart, Acted, acted}
+
+module _ (m : ZXMachine) (w : World) (sound : SoundWorld m w) (sized : Sized m w) (n : Portions) where
+  abbrev l : Lent
+  l = lentBy m w
+
+  abbrev part : Lent
+  part = lentOf n l
+
+  -- the buffers when a call's slices have come back
+  abbrev pub back : Result → Result
+  back r = result (r .code) (handedBack n l (r .slices)) (r .filled)
+
+  -- what none of the causes leaves, of an accepted call on the whole buffers
+  whole-acted : (k : Call) → NoStart k → Typed k → performed k l .code ≡ 0 → Acted m w sound sized k
+  whole-acted k first typed z = acted m w sound sized k first typed (call-numbered k l .zeroByNone z)
+
+  -- a call that changes RAM alone, and one that changes the record alone
+  ram-back : (k : Call) (xs : List ℕ) → Acted m w sound sized k → performed k l .slices ≡ withRam l xs → length (part .ram) ≡ length (l .ram)
+      → handedBack n l (withRam part xs) ≡ withRam l xs
+  ram-back k xs a e long = ram-changed n l xs long (ap (λ (x : Lent). length (x .ram)) (sym e ∙ a .slices) ∙ a .kept .lengths .ram)
+
+  state-back : (k : Call) (xs : List ℕ) → Acted m w sound sized k → performed k l .slices ≡ withState l xs → length (part .state) ≡ length (l .state)
+      → handedBack n l (withState part xs) ≡ withState l xs
+  state-back k xs a e long = state-changed n l xs long (ap (λ (x : Lent). length (x .state)) (sym e ∙ a .slices))
+
+  -- ACCEPTED.
+  pub as-whole : (k : Call) → NoStart k → Typed k → performed k part .code ≡ 0 → back (performed k part) ≡ performed k l
+  unfolding performed
+  as-whole (startAgain machine) first typed z = absurd first
+  as-whole (timedCall t answer) first typed z =
+      let whole = timed-whole m w sound sized n t answer (call-numbered (timedCall t answer) part .zeroByNone z) in
+      let same = lent-whole n l whole in
+      let a = whole-acted (timedCall t answer) first typed (subst (λ (x : Lent). performed (timedCall t answer) x .code ≡ 0) same z) in
+      ap (λ (x : Lent). back (performed (timedCall t answer) x)) same
+      ∙ ap (λ (x : Lent). result (performed (timedCall t answer) l .code) x (performed (timedCall t answer) l .filled))
+      (ap (handedBack n l) (a .slices) ∙ handed-whole n m w (worldAfter m (opsOf m (timedCall t answer) (w .core)) w) whole (a .kept .lengths) ∙ sym (a .slices))
+  as-whole (writeByte addr value) first typed z =
+      let h = call-numbered (writeByte addr value) part .zeroByNone z in
+      let fit : ramFits (recordOf (part .state)) (length (part .ram)) ≡ _ = not-false _ (h .1 .1 .0) in
+      let bus = bus-is m w sound sized n (h .0) in
+      let same : writeInternal (part .state) (part .ram) addr value ≡ writeInternal (l .state) (l .ram) addr value =
+      λ i. writeInternal (state-whole m w sound sized n (h .0) i) (ram-whole m w sound sized n (recordOf (part .state)) bus fit i) addr value in
+      let c = writeInternal (l .state) (l .ram) addr value in
+      let a = whole-acted (writeByte addr value) first typed (ap (λ (x : Changed). x .code) (sym same) ∙ z) in
+      ap (λ (x : Changed). back (result (x .code) (withRam part (x .slice)) [])) same
+      ∙ ap (λ (x : Lent). result (c .code) x []) (ram-back (writeByte addr value) (c .slice) a refl (ram-long m w sound sized n (recordOf (part .state)) bus fit))
+  as-whole (writePaging value answer) first typed z =
+      let h = call-numbered (writePaging value answer) part .zeroByNone z in
+      let same : write7ffdCall (part .state) value answer ≡ write7ffdCall (l .state) value answer =
+      λ i. write7ffdCall (state-whole m w sound sized n (h .0) i) value answer in
+      let c = write7ffdCall (l .state) value answer in
+      let a = whole-acted (writePaging value answer) first typed (ap (λ (x : Repaged). x .code) (sym same) ∙ z) in
+      ap (λ (x : Repaged). back (result (x .code) (withState part (x .state)) (x .answer))) same
+      ∙ ap (λ (x : Lent). result (c .code) x (c .answer))
+      (state-back (writePaging value answer) (c .state) a refl (eqb-true (length (part .state)) recordLength (not-false _ (h .0))))
+  as-whole resetPassed first typed z =
+      let h = call-numbered resetPassed part .zeroByNone z in
+      let same : resetFrames (part .state) ≡ resetFrames (l .state) = λ i. resetFrames (state-whole m w sound sized n (h .0) i) in
+      let c = resetFrames (l .state) in
+      let a = whole-acted resetPassed first typed (ap (λ (x : Changed). x .code) (sym same) ∙ z) in
+      ap (λ (x : Changed). back (result (x .code) (withState part (x .slice)) [])) same
+      ∙ ap (λ (x : Lent). result (c .code) x []) (state-back resetPassed (c .slice) a refl (eqb-true (length (part .state)) recordLength (not-false _ (h .0))))
+  as-whole (loadRam bytes page) first typed z =
+      let h = call-numbered (loadRam bytes page) part .zeroByNone z in
+      let fit : ramFits (recordOf (part .state)) (length (part .ram)) ≡ _ = each (ramFits (recordOf (part .state)) (length (part .ram))) (_ ∷ []) (not-false _ (h .1 .1 .0)) 0 in
+      let bus = bus-is m w sound sized n (h .0) in
+      let same : loadPage (part .state) (part .ram) bytes page ≡ loadPage (l .state) (l .ram) bytes page =
+      λ i. loadPage (state-whole m w sound sized n (h .0) i) (ram-whole m w sound sized n (recordOf (part .state)) bus fit i) bytes page in
+      let c = loadPage (l .state) (l .ram) bytes page in
+      let a = whole-acted (loadRam bytes page) first typed (ap (λ (x : Changed). x .code) (sym same) ∙ z) in
+      ap (λ (x : Changed). back (result (x .code) (withRam part (x .slice)) [])) same
+      ∙ ap (λ (x : Lent). result (c .code) x []) (ram-back (loadRam bytes page) (c .slice) a refl (ram-long m w sound sized n (recordOf (part .state)) bus fit))
+  as-whole (ask q out) first typed z =
+      let same = reply-whole m w sound sized n q out (call-numbered (ask q out) part .zeroByNone z) in
+      ap (λ (x : Told). back (result (x .code) part (x .answer))) same
+      ∙ ap (λ (x : Lent). result (replied q l out .code) x (replied q l out .answer)) (untouched n l)
+
+-- REFUSED, on any buffers, sound or not: they are as they were.
+pub as-refused : (n : Portions) (l : Lent) (k : Call) → (performed k (lentOf n l) .code ≡ 0 → ⊥) → handedBack n l (performed k (lentOf n l) .slices) ≡ l
+as-refused n l k z = ap (λ (r : Result). handedBack n l (r .slices)) (call-refused (lentOf n l) k z) ∙ untouched n l

@@ -1,0 +1,300 @@
+-- ONE TYPE OF CALL: each function of the C surface with all that it is handed but the machine's own buffers; what it leaves, by its definition;
+-- for which causes it is refused; and what the firmware lends of its buffers, by mistake too little or too much.
+-- Assumes nothing.
+use Prim.Native.Nat.{ℕ, _<_, _^_}
+use mathlib.Core.Bool.{Bool, not}
+use mathlib.Core.List.{List, [], _∷_, _++_}
+use mathlib.Core.Path.{_≡_}
+use lib.Dec.{leb, ltb}
+use lib.ListN.{length, take, drop}
+use Rattle.machine.specs.declared.ZXMachine.{ZXMachine}
+use Rattle.machine.specs.Numbers.{specsOf}
+use Rattle.record.specs.Record.{machineOf}
+use Rattle.ports.specs.Devices.{devicesOf}
+use Rattle.bus.specs.World.{Core, World}
+use Rattle.bus.specs.Turns.{Part}
+use Rattle.bus.specs.Calls.{plainWait, addressWait, portRead, readValue, portWrite, writeCode, pagingWrite}
+use Rattle.bus.specs.Pokes.{byteWrite, pageLoad, passedReset}
+use Rattle.screen.specs.declared.Helped.{Helped}
+use Rattle.screen.specs.Address.{lineAddress, lineAt, columnAt, attributeRow, attributeColumn, isAttribute}
+use Rattle.screen.specs.Color.{fromBits}
+use Rattle.answers.specs.declared.Refusal.the-variants.{BadMachine, BadNumber}
+use Rattle.answers.specs.Refusals.{Cause, cause}
+use Rattle.answers.specs.Judges.{numberFits, unless}
+use Rattle.answers.specs.Answers.{refusedAnswer}
+use Rattle.answers.specs.Order.{stateCauses, waitCauses, portCauses, toldCauses, readCauses, writeCauses, loadCauses, ramPageToldCauses, blockToldCauses, shownToldCauses, stillCauses}
+use Rattle.contracts.specs.Timed.{Lent, Outcome, noValue, startFitsOf, start, waitInternal, waitAt, readIo, writeIo}
+use Rattle.contracts.specs.Plain.{Told, told, readInternal, writeInternal, write7ffdCall, read7ffd, intActive, framesCount, resetFrames, loadPage, stillPicture, ramPageTold, blockTold, shownTold}
+use Rattle.contracts.specs.Helpers.{helperCall, colorHelped}
+
+-- ---- the calls, each with its numbers and with the contents of the slices that are not the machine's own: device record, ROM, page bytes
+
+-- the timed calls
+pub data TimedCall : Type 0 where
+  plain : ℕ → TimedCall
+  mreq : ℕ → ℕ → TimedCall
+  noMreq : ℕ → ℕ → TimedCall
+  portIn : List ℕ → ℕ → TimedCall
+  portOut : List ℕ → ℕ → ℕ → TimedCall
+
+-- the helpers
+pub data Helper : Type 0 where
+  lineAddr : Helper
+  lineOf : Helper
+  columnOf : Helper
+  attrRowOf : Helper
+  attrColumnOf : Helper
+  colorOf : Helper
+
+-- what may be asked of a machine without a change of it; and of no machine, by a helper
+pub data Question : Type 0 where
+  byteRead : List ℕ → ℕ → Question
+  pagingRead : Question
+  interruptAsked : Question
+  framesAsked : Question
+  pageAsked : ℕ → Question
+  blockAsked : List ℕ → ℕ → Question
+  shownAsked : Question
+  stillAsked : ℕ → Question
+  help : Helper → ℕ → Question
+
+-- any call; the last list of one is the slice that it fills: the answer, or the still's picture
+pub data Call : Type 0 where
+  startAgain : ℕ → Call
+  timedCall : TimedCall → List ℕ → Call
+  writeByte : ℕ → ℕ → Call
+  writePaging : ℕ → List ℕ → Call
+  resetPassed : Call
+  loadRam : List ℕ → ℕ → Call
+  ask : Question → List ℕ → Call
+
+-- what a call leaves: the number returned, the machine's slices, and the slice that it fills (none where it has none)
+pub record Result : Type 0 where
+  pub code : ℕ
+  pub slices : Lent
+  pub filled : List ℕ
+
+abbrev pub result : ℕ → Lent → List ℕ → Result
+result code slices filled = record { code = code; slices = slices; filled = filled }
+
+abbrev pub withRam : Lent → List ℕ → Lent
+withRam l ram = record { state = l .state; ram = ram; a = l .a; b = l .b; border = l .border }
+
+abbrev pub withState : Lent → List ℕ → Lent
+withState l state = record { state = state; ram = l .ram; a = l .a; b = l .b; border = l .border }
+
+-- ---- each call by its definition, which its contract says of the code
+unfoldable pub waited : TimedCall → Lent → List ℕ → Outcome
+waited (plain n) l answer = waitInternal l n answer
+waited (mreq addr n) l answer = waitAt l addr n answer
+waited (noMreq addr n) l answer = waitAt l addr n answer
+waited (portIn devices port) l answer = readIo l devices port answer
+waited (portOut devices port value) l answer = writeIo l devices port value answer
+
+-- the operations of a timed call, and its value or code, as the core decides them
+abbrev pub partOf : TimedCall → ZXMachine → Part
+partOf (plain n) m = plainWait n
+partOf (mreq addr n) m = addressWait m addr n
+partOf (noMreq addr n) m = addressWait m addr n
+partOf (portIn devices port) m = portRead m port
+partOf (portOut devices port value) m = portWrite m (devicesOf devices) port value
+
+abbrev pub valueOf : TimedCall → ZXMachine → Core → ℕ
+valueOf (plain n) m = noValue m
+valueOf (mreq addr n) m = noValue m
+valueOf (noMreq addr n) m = noValue m
+valueOf (portIn devices port) m = readValue m (devicesOf devices) port
+valueOf (portOut devices port value) m = writeCode m (devicesOf devices) port value
+
+-- the operations of an accepted call; a second start has none
+unfoldable pub opsOf : ZXMachine → Call → Part
+opsOf m (startAgain machine) c = []
+opsOf m (timedCall t answer) c = partOf t m c
+opsOf m (writeByte addr value) c = byteWrite m addr value c
+opsOf m (writePaging value answer) c = pagingWrite m value c
+opsOf m resetPassed c = passedReset c
+opsOf m (loadRam bytes page) c = pageLoad page bytes c
+opsOf m (ask q out) c = []
+
+abbrev pub helpedBy : Helper → ℕ → Helped
+helpedBy lineAddr n = lineAddress n
+helpedBy lineOf n = lineAt n
+helpedBy columnOf n = columnAt n
+helpedBy attrRowOf n = attributeRow n
+helpedBy attrColumnOf n = attributeColumn n
+helpedBy colorOf n = colorHelped (fromBits n)
+
+unfoldable pub replied : Question → Lent → List ℕ → Told
+replied (byteRead rom addr) l answer = readInternal (l .state) rom (l .ram) addr answer
+replied pagingRead l answer = read7ffd (l .state) answer
+replied interruptAsked l answer = intActive (l .state) answer
+replied framesAsked l answer = framesCount (l .state) answer
+replied (pageAsked page) l answer = ramPageTold (l .state) (l .ram) page answer
+replied (blockAsked rom block) l answer = blockTold (l .state) rom (l .ram) block answer
+replied shownAsked l answer = shownTold (l .state) (l .a) (l .b) answer
+replied (stillAsked flash) l picture =
+    let c = stillPicture (l .state) (l .ram) picture flash in
+    told (c .code) (c .slice)
+replied (help h n) l answer = helperCall (helpedBy h n) answer
+
+unfoldable pub performed : Call → Lent → Result
+performed (startAgain machine) l = let s = start l machine in result (s .code) (s .slices) []
+performed (timedCall t answer) l = let o = waited t l answer in result (o .code) (o .slices) (o .answer)
+performed (writeByte addr value) l = let c = writeInternal (l .state) (l .ram) addr value in result (c .code) (withRam l (c .slice)) []
+performed (writePaging value answer) l = let c = write7ffdCall (l .state) value answer in result (c .code) (withState l (c .state)) (c .answer)
+performed resetPassed l = let c = resetFrames (l .state) in result (c .code) (withState l (c .slice)) []
+performed (loadRam bytes page) l = let c = loadPage (l .state) (l .ram) bytes page in result (c .code) (withRam l (c .slice)) []
+performed (ask q out) l = let t = replied q l out in result (t .code) l (t .answer)
+
+-- ---- the causes for which a call is refused, in document 01's order
+abbrev pub waitCausesOf : Lent → ℕ → List ℕ → List Cause
+waitCausesOf l n answer = waitCauses (l .state) (length (l .ram)) (length (l .a)) (length (l .b)) (length (l .border)) n (length answer)
+
+abbrev pub portCausesOf : Lent → List ℕ → List ℕ → List Cause
+portCausesOf l devices answer = portCauses (l .state) devices (length (l .ram)) (length (l .a)) (length (l .b)) (length (l .border)) (length answer)
+
+abbrev pub timedCauses : TimedCall → Lent → List ℕ → List Cause
+timedCauses (plain n) l answer = waitCausesOf l n answer
+timedCauses (mreq addr n) l answer = waitCausesOf l n answer
+timedCauses (noMreq addr n) l answer = waitCausesOf l n answer
+timedCauses (portIn devices port) l answer = portCausesOf l devices answer
+timedCauses (portOut devices port value) l answer = portCausesOf l devices answer
+
+-- start: "start: machine above 1", then the lengths; the record is not judged
+abbrev pub startCauses : Lent → ℕ → List Cause
+startCauses l machine = cause BadMachine (ltb 1 machine) ∷ unless (startFitsOf (machineOf machine) l) ∷ []
+
+-- the helpers: the answer's length, then 8, "a helper's number outside its range"
+abbrev pub helperRange : Helper → ℕ → Bool
+helperRange lineAddr n = leb n 191
+helperRange lineOf n = leb n 0x17FF
+helperRange columnOf n = leb n 0x17FF
+helperRange attrRowOf n = isAttribute n
+helperRange attrColumnOf n = isAttribute n
+helperRange colorOf n = leb n 7
+
+abbrev pub helperCauses : Bool → List ℕ → List Cause
+helperCauses within answer = unless (numberFits (length answer)) ∷ cause BadNumber (not within) ∷ []
+
+abbrev pub questionCauses : Question → Lent → List ℕ → List Cause
+questionCauses (byteRead rom addr) l answer = readCauses (l .state) (length rom) (length (l .ram)) (length answer)
+questionCauses pagingRead l answer = toldCauses (l .state) (length answer)
+questionCauses interruptAsked l answer = toldCauses (l .state) (length answer)
+questionCauses framesAsked l answer = toldCauses (l .state) (length answer)
+questionCauses (pageAsked page) l answer = ramPageToldCauses (l .state) (length (l .ram)) page (length answer)
+questionCauses (blockAsked rom block) l answer = blockToldCauses (l .state) (length rom) (length (l .ram)) block (length answer)
+questionCauses shownAsked l answer = shownToldCauses (l .state) (length (l .a)) (length (l .b)) (length answer)
+questionCauses (stillAsked flash) l picture = stillCauses (l .state) (length (l .ram)) (length picture) flash
+questionCauses (help h n) l answer = helperCauses (helperRange h n) answer
+
+abbrev pub causesOf : Call → Lent → List Cause
+causesOf (startAgain machine) l = startCauses l machine
+causesOf (timedCall t answer) l = timedCauses t l answer
+causesOf (writeByte addr value) l = writeCauses (l .state) (length (l .ram))
+causesOf (writePaging value answer) l = toldCauses (l .state) (length answer)
+causesOf resetPassed l = stateCauses (l .state)
+causesOf (loadRam bytes page) l = loadCauses (l .state) (length (l .ram)) (length bytes) page
+causesOf (ask q out) l = questionCauses q l out
+
+-- "A refused call fills its answer, if that has its length, with the number and zeros": a still's picture is left as it was
+abbrev pub refusedReply : Question → List ℕ → ℕ → List ℕ
+refusedReply (byteRead rom addr) answer code = refusedAnswer 5 code answer
+refusedReply pagingRead answer code = refusedAnswer 5 code answer
+refusedReply interruptAsked answer code = refusedAnswer 5 code answer
+refusedReply framesAsked answer code = refusedAnswer 5 code answer
+refusedReply (pageAsked page) answer code = refusedAnswer 5 code answer
+refusedReply (blockAsked rom block) answer code = refusedAnswer 5 code answer
+refusedReply shownAsked answer code = refusedAnswer 5 code answer
+refusedReply (stillAsked flash) picture code = picture
+refusedReply (help h n) answer code = refusedAnswer 5 code answer
+
+abbrev pub refusedFilled : Call → ℕ → List ℕ
+refusedFilled (startAgain machine) code = []
+refusedFilled (timedCall t answer) code = refusedAnswer 10 code answer
+refusedFilled (writeByte addr value) code = []
+refusedFilled (writePaging value answer) code = refusedAnswer 5 code answer
+refusedFilled resetPassed code = []
+refusedFilled (loadRam bytes page) code = []
+refusedFilled (ask q out) code = refusedReply q out code
+
+-- what the types of the functions' parameters say of a call's numbers
+abbrev pub Typed : Call → Type 0
+Typed (startAgain machine) = machine < 2 ^ 32
+Typed (timedCall (plain n) answer) = n < 2 ^ 32
+Typed (timedCall (mreq addr n) answer) = (addr < 2 ^ 16) × (n < 2 ^ 32)
+Typed (timedCall (noMreq addr n) answer) = (addr < 2 ^ 16) × (n < 2 ^ 32)
+Typed (timedCall (portIn devices port) answer) = port < 2 ^ 16
+Typed (timedCall (portOut devices port value) answer) = (port < 2 ^ 16) × (value < 2 ^ 8)
+Typed (writeByte addr value) = (addr < 2 ^ 16) × (value < 2 ^ 8)
+Typed (writePaging value answer) = value < 2 ^ 8
+Typed resetPassed = Unit {0}
+Typed (loadRam bytes page) = page < 2 ^ 32
+Typed (ask q out) = Unit {0}
+
+-- ---- what is lent: "our buffers each lent only in its own place and handed back untouched between calls"
+
+-- What the firmware lends of one of its own buffers: `count` bytes from the buffer's first on. A right call lends the buffer's own length. A mistaken
+-- one lends fewer, or more: then bytes that follow the buffer in memory are lent with it, and `beyond` holds these.
+pub record Portion : Type 0 where
+  pub count : ℕ
+  pub beyond : List ℕ
+
+-- the slice that a call is lent
+abbrev pub lend : Portion → List ℕ → List ℕ
+lend n buffer = take (n .count) (buffer ++ n .beyond)
+
+-- The buffer when a call has left `out` in that slice: what stands in `out` as far as the buffer goes, and then what was not lent of it. What stands
+-- beyond the buffer is not the machine's. A call that is lent too much is refused and writes nothing there; a second start alone could, and a run
+-- has none.
+abbrev pub handBack : Portion → List ℕ → List ℕ → List ℕ
+handBack n buffer out = take (length buffer) out ++ drop (n .count) buffer
+
+-- of the machine's five buffers
+pub record Portions : Type 0 where
+  pub state : Portion
+  pub ram : Portion
+  pub a : Portion
+  pub b : Portion
+  pub border : Portion
+
+abbrev pub lentOf : Portions → Lent → Lent
+lentOf n l =
+    record {
+      state = lend (n .state) (l .state);
+      ram = lend (n .ram) (l .ram);
+      a = lend (n .a) (l .a);
+      b = lend (n .b) (l .b);
+      border = lend (n .border) (l .border);
+    }
+
+-- the buffers when a call has left `out` in what it was lent of them
+abbrev pub handedBack : Portions → Lent → Lent → Lent
+handedBack n l out =
+    record {
+      state = handBack (n .state) (l .state) (out .state);
+      ram = handBack (n .ram) (l .ram) (out .ram);
+      a = handBack (n .a) (l .a) (out .a);
+      b = handBack (n .b) (l .b) (out .b);
+      border = handBack (n .border) (l .border) (out .border);
+    }
+
+-- the memory of a machine has the lengths that document 01 gives it
+pub record Sized (m : ZXMachine) (w : World) : Type 0 where
+  pub ram : length (w .core .ram) ≡ specsOf m .ram
+  pub a : length (w .screen .a) ≡ 49152
+  pub b : length (w .screen .b) ≡ 49152
+  pub pixels : length (w .edge .pixels) ≡ 76800
+
+-- ---- a call that was made: what of the buffers it was lent, and what it left
+pub record Made : Type 0 where
+  pub lending : Portions
+  pub call : Call
+  pub result : Result
+
+abbrev pub buffersAfter : Made → Lent → Lent
+buffersAfter c l = handedBack (c .lending) l (c .result .slices)
+
+-- calls made one after the other, each on what the one before it left, and each with what its definition says
+abbrev pub Obeyed : List Made → Lent → Type 0
+Obeyed [] l = Unit {0}
+Obeyed (c ∷ cs) l = (c .result ≡ performed (c .call) (lentOf (c .lending) l)) × Obeyed cs (buffersAfter c l)
