@@ -6,7 +6,7 @@ use mathlib.Core.Bool.{Bool, true, false, cond}
 use mathlib.Core.List.{List, [], _∷_}
 use mathlib.Core.Path.{_≡_, refl, sym, _∙_, ap, subst}
 use native.Mathlib.Omega.{arith}
-use lib.Dec.{eqb}
+use lib.Dec.{eqb, ltb}
 use lib.ListN.{length}
 use borrow.Author.Tests.{eqb-true, eqb-false, ltb-false, not-false}
 use Rattle.laws.proofs.Cases.{by-bool}
@@ -16,7 +16,7 @@ use Rattle.machine.specs.declared.ZXMachine.the-variants.{Sinclair48K, Sinclair
 use Rattle.machine.specs.Numbers.{specsOf}
 use Rattle.machine.specs.Timing.{interrupt}
 use Rattle.record.specs.declared.Bus.{Bus}
-use Rattle.record.specs.Record.{recordBytes, recordOf}
+use Rattle.record.specs.Record.{recordBytes, recordOf, machineOf}
 use Rattle.memory.specs.declared.Place.{Place}
 use Rattle.memory.specs.declared.Place.the-variants as place
 use Rattle.memory.specs.declared.Paged.{Paged}
@@ -25,14 +25,14 @@ use Rattle.memory.specs.Paging.{bitSet, write7ffd, pagingAfter, pageExists}
 use Rattle.memory.specs.Memory.{placeOf, pokedIn, poked, loaded}
 use Rattle.memory.proofs.Places.{exists-fits}
 use Rattle.ports.specs.Devices.{devicesOf}
-use Rattle.bus.specs.World.{Core, World, busOf}
+use Rattle.bus.specs.World.{Core, World, busOf, started}
 use Rattle.bus.specs.Time.{Op, paged, poke, load, unpass, inCore, inScreen, inEdge, worldAfter}
 use Rattle.bus.specs.Turns.{clocksOf, Part, ran, fresh, ranBy}
 use Rattle.bus.specs.Calls.{repaged}
 use Rattle.bus.specs.Pokes.{poking}
 use Rattle.bus.proofs.Runs.{clocksIn, blocksIn, closedIn, ran-is, ran-world, fresh-blocks}
 use Rattle.bus.proofs.TimedCalls.{Timed, plain-timed, address-timed, read-timed, write-timed}
-use Rattle.bus.proofs.Lengths.{SameLengths, Fits, lengths-kept, call-lengths}
+use Rattle.bus.proofs.Lengths.{SameLengths, Fits, lengths-kept, call-lengths, started-whole}
 use Rattle.bus.proofs.Kept.{SoundWorld, InRange, op-kept, call-kept}
 use Rattle.bus.proofs.Reports.{call-fits}
 use Rattle.answers.specs.declared.Verdict.{Verdict}
@@ -41,20 +41,10 @@ use Rattle.answers.specs.Judges.{ramFits, judgeState, judgeTold, judgeWrite, ju
 use Rattle.answers.specs.Answers.{timedAnswer}
 use Rattle.answers.specs.Order.{NoneHolds}
 use Rattle.answers.proofs.Order.{state-ordered, wait-ordered, port-ordered, told-ordered, write-ordered, load-ordered}
-use Rattle.contracts.specs.Timed.{Lent, lentBy, Outcome, outcome, timed, timedEnd, judgeWaitOf, judgePortOf, waitInternal, waitAt, readIo, writeIo}
+use Rattle.contracts.specs.Timed.{Lent, lentBy, startFitsOf, startLeaves, start, Outcome, outcome, timed, timedEnd, judgeWaitOf, judgePortOf, waitInternal, waitAt, readIo, writeIo}
 use Rattle.contracts.specs.Plain.{change, repage, withPaging, withPassed, writeInternal, write7ffdCall, resetFrames, loadPage}
-use Rattle.contracts.specs.Calls.{TimedCall, plain, mreq, noMreq, portIn, portOut, Call, startAgain, timedCall, writeByte, writePaging, resetPassed, loadRam, ask, Result, withRam, withState, waited, partOf, valueOf, opsOf, replied, performed, timedCauses, causesOf, Typed, Sized}
+use Rattle.contracts.specs.Calls.{TimedCall, plain, mreq, noMreq, portIn, portOut, Call, startAgain, timedCall, writeByte, writePaging, resetPassed, loadRam, ask, Result, withRam, withState, waited, partOf, valueOf, opsOf, replied, performed, timedCauses, causesOf, Typed, Sized, NotStarted}
 use Rattle.contracts.proofs.Wholes.{record-of}
-
--- a second start is none of these calls
-abbrev pub NoStart : Call → Type 0
-NoStart (startAgain machine) = ⊥
-NoStart (timedCall t answer) = Unit {0}
-NoStart (writeByte addr value) = Unit {0}
-NoStart (writePaging value answer) = Unit {0}
-NoStart resetPassed = Unit {0}
-NoStart (loadRam bytes page) = Unit {0}
-NoStart (ask q out) = Unit {0}
 
 -- what operations keep of a world
 pub record Kept (m : ZXMachine) (os : List Op) (w : World) : Type 0 where
@@ -73,6 +63,23 @@ takes Sinclair128K held v =
     by-bool (Takes Sinclair128K v) (bitSet 5 held)
     (λ b u e. let z : _≡_ {A = ℕ} 0 1 = cc in absurd (omega (arith, z)))
     (λ b u e. (cc, refl))
+
+pub sized-kept : (m : ZXMachine) (w w′ : World) → Sized m w → SameLengths w w′ → Sized m w′
+sized-kept m w w′ s h = record { ram = h .ram ∙ s .ram; a = h .a ∙ s .a; b = h .b ∙ s .b; pixels = h .pixels ∙ s .pixels }
+
+-- WHAT AN ACCEPTED START LEAVES: the buffers of its machine as it begins, which is sound and has its lengths
+started-by : (wrong fits : Bool) (l new : Lent) → cond wrong (startLeaves 1 l) (cond fits (startLeaves 0 new) (startLeaves 2 l)) .code ≡ 0
+    → cond wrong (startLeaves 1 l) (cond fits (startLeaves 0 new) (startLeaves 2 l)) .slices ≡ new
+started-by true fits l new z = absurd (omega arith)
+started-by false true l new z = refl
+started-by false false l new z = absurd (omega arith)
+
+pub start-left : (l : Lent) (machine : ℕ) → start l machine .code ≡ 0 → start l machine .slices ≡ lentBy (machineOf machine) (started (machineOf machine))
+unfolding start
+start-left l machine z = started-by (ltb 1 machine) (startFitsOf (machineOf machine) l) l (lentBy (machineOf machine) (started (machineOf machine))) z
+
+pub start-sized : (m : ZXMachine) → Sized m (started m)
+start-sized m = let s = started-whole m in record { ram = s .ram; a = s .a; b = s .b; pixels = s .pixels }
 
 module _ (m : ZXMachine) (w : World) (sound : SoundWorld m w) (sized : Sized m w) where
   abbrev l : Lent
@@ -247,9 +254,9 @@ module _ (m : ZXMachine) (w : World) (sound : SoundWorld m w) (sized : Sized m w
       }
 
   -- EVERY ACCEPTED CALL, whichever it is.
-  pub acted : (k : Call) → NoStart k → Typed k → NoneHolds (causesOf k l) → Acted k
+  pub acted : (k : Call) → NotStarted k 0 → Typed k → NoneHolds (causesOf k l) → Acted k
   unfolding opsOf performed worldAfter
-  acted (startAgain machine) first typed h = absurd first
+  acted (startAgain machine) first typed h = absurd (first refl)
   acted (timedCall t answer) first typed h = record { slices = ap (λ (o : Outcome). o .slices) (timed-left t answer h); kept = timed-kept t answer h typed }
   acted (writeByte addr value) first typed h = write-acted addr value h
   acted (writePaging value answer) first typed h = paging-acted value answer typed h

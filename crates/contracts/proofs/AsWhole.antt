@@ -16,11 +16,11 @@ use Rattle.answers.specs.Judges.{ramFits}
 use Rattle.answers.specs.Order.{NoneHolds}
 use Rattle.contracts.specs.Timed.{Lent, lentBy}
 use Rattle.contracts.specs.Plain.{Told, Changed, Repaged, writeInternal, write7ffdCall, resetFrames, loadPage}
-use Rattle.contracts.specs.Calls.{Call, startAgain, timedCall, writeByte, writePaging, resetPassed, loadRam, ask, Result, result, withRam, withState, opsOf, replied, performed, causesOf, refusedFilled, Typed, Portions, lentOf, handedBack, Sized, Made, buffersAfter}
+use Rattle.contracts.specs.Calls.{Call, startAgain, timedCall, writeByte, writePaging, resetPassed, loadRam, ask, Result, result, withRam, withState, opsOf, replied, performed, causesOf, refusedFilled, Typed, Portions, lentOf, handedBack, Sized, NotStarted}
 use Rattle.contracts.proofs.Calls.{call-numbered, call-refused}
 use Rattle.contracts.proofs.Lending.{untouched, ram-changed, state-changed, lent-whole, handed-whole}
 use Rattle.contracts.proofs.Wholes.{timed-whole, reply-whole, state-whole, bus-is, ram-long, ram-whole}
-use Rattle.contracts.proofs.Acts.{NoStart, Acted, acted}
+use Rattle.contracts.proofs.Acts.{Acted, acted}
 
 module _ (m : ZXMachine) (w : World) (sound : SoundWorld m w) (sized : Sized m w) (n : Portions) where
   abbrev l : Lent
@@ -34,7 +34,7 @@ module _ (m : ZXMachine) (w : World) (sound : SoundWorld m w) (sized : Sized m w
   back r = result (r .code) (handedBack n l (r .slices)) (r .filled)
 
   -- what none of the causes leaves, of an accepted call on the whole buffers
-  whole-acted : (k : Call) → NoStart k → Typed k → performed k l .code ≡ 0 → Acted m w sound sized k
+  whole-acted : (k : Call) → NotStarted k 0 → Typed k → performed k l .code ≡ 0 → Acted m w sound sized k
   whole-acted k first typed z = acted m w sound sized k first typed (call-numbered k l .zeroByNone z)
 
   -- a call that changes RAM alone, and one that changes the record alone
@@ -47,9 +47,9 @@ module _ (m : ZXMachine) (w : World) (sound : SoundWorld m w) (sized : Sized m w
   state-back k xs a e long = state-changed n l xs long (ap (λ (x : Lent). length (x .state)) (sym e ∙ a .slices))
 
   -- ACCEPTED.
-  pub as-whole : (k : Call) → NoStart k → Typed k → performed k part .code ≡ 0 → back (performed k part) ≡ performed k l
+  pub as-whole : (k : Call) → NotStarted k 0 → Typed k → performed k part .code ≡ 0 → back (performed k part) ≡ performed k l
   unfolding performed
-  as-whole (startAgain machine) first typed z = absurd first
+  as-whole (startAgain machine) first typed z = absurd (first refl)
   as-whole (timedCall t answer) first typed z =
       let whole = timed-whole m w sound sized n t answer (call-numbered (timedCall t answer) part .zeroByNone z) in
       let same = lent-whole n l whole in

@@ -298,3 +298,24 @@ buffersAfter c l = handedBack (c .lending) l (c .result .slices)
 abbrev pub Obeyed : List Made → Lent → Type 0
 Obeyed [] l = Unit {0}
 Obeyed (c ∷ cs) l = (c .result ≡ performed (c .call) (lentOf (c .lending) l)) × Obeyed cs (buffersAfter c l)
+
+-- something said of every call of a list
+abbrev pub Each : (Made → Type 0) → List Made → Type 0
+Each P [] = Unit {0}
+Each P (c ∷ cs) = P c × Each P cs
+
+abbrev pub AllTyped : List Made → Type 0
+AllTyped cs = Each (λ c. Typed (c .call)) cs
+
+-- "with no second start": a start that is called again is refused
+abbrev pub NotStarted : Call → ℕ → Type 0
+NotStarted (startAgain machine) code = code ≡ 0 → ⊥
+NotStarted (timedCall t answer) code = Unit {0}
+NotStarted (writeByte addr value) code = Unit {0}
+NotStarted (writePaging value answer) code = Unit {0}
+NotStarted resetPassed code = Unit {0}
+NotStarted (loadRam bytes page) code = Unit {0}
+NotStarted (ask q out) code = Unit {0}
+
+abbrev pub NoSecondStart : List Made → Type 0
+NoSecondStart cs = Each (λ c. NotStarted (c .call) (c .result .code)) cs

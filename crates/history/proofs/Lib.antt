@@ -3,10 +3,6 @@ pub mod Pictures
 pub mod Borders
 pub mod Drawn
 pub mod Operations
-pub mod Whole
-pub mod Judging
 pub mod Counts
 pub mod Tied
 pub mod Demand3
-pub mod Sentences
-pub mod Steps

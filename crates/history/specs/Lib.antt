@@ -1,3 +1,3 @@
 pub mod Log
-pub mod Calls
+pub mod Reports
 pub mod Demand

@@ -1,41 +1,55 @@
--- A START AND THEN ANY CALLS of the C surface that the Rust has are the Rust's: each accepted call starts from what the calls before it left, and
--- leaves what the next one asks; a refused call leaves everything as it was.
+-- A START AND THEN ANY CALLS of the C surface are the Rust's: each accepted call starts from what the calls before it left, and leaves what the next
+-- one asks; a refused call leaves everything as it was.
 -- Assumes nothing.
 use Prim.Native.Nat.{ℕ}
 use mathlib.Core.Path.{_≡_, refl, sym, ap, _∙_, subst}
+use mathlib.Core.Bool.{true}
 use mathlib.Core.List.{List, [], _∷_}
+use lib.Dec.{eqb}
 use lib.ListN.{length}
+use borrow.Author.Tests.{eqb-true, not-false}
+use Rattle.laws.proofs.Conjunction.{each}
 use Rattle.machine.specs.declared.ZXMachine.{ZXMachine}
 use Rattle.machine.specs.Numbers.{specsOf}
 use Rattle.record.specs.declared.Bus.{Bus}
-use Rattle.record.specs.Record.{recordBytes, flagByte, machineOf}
+use Rattle.record.specs.Record.{recordBytes, recordOf, flagByte, machineOf}
 use Rattle.record.specs.Sound.{Sound}
 use Rattle.record.proofs.Soundness.{facts-sound}
 use Rattle.record.proofs.Round.{held-encode}
 use Rattle.memory.specs.Paging as paging
 use Rattle.memory.specs.Paging.{pagingAfter}
-use Rattle.bus.specs.World.{busOf}
+use Rattle.paint.specs.Paint.{blocks}
+use Rattle.memory.specs.Memory.{ramPage}
+use Rattle.bus.specs.World.{World, busOf, started}
+use Rattle.bus.specs.Time.{worldAfter}
+use Rattle.bus.proofs.Kept.{SoundWorld, started-sound}
 use Rattle.answers.specs.declared.Verdict.the-variants.{Accepted}
-use Rattle.answers.specs.Judges.{judgeTold}
-use Rattle.answers.specs.Order.{Numbered, waitCauses, portCauses, toldCauses}
-use Rattle.answers.proofs.Order.{state-ordered, wait-ordered, port-ordered, told-ordered, read-ordered, write-ordered, load-ordered}
-use Rattle.contracts.specs.Timed.{Lent, Outcome, lentWorld, judgeWaitOf, judgePortOf, start}
-use Rattle.contracts.specs.Plain.{withPassed, withPaging}
-use Rattle.contracts.proofs.Refusals as contracts
+use Rattle.answers.specs.Judges.{romFits, judgeStill}
+use Rattle.answers.specs.Order.{NoneHolds, Numbered}
+use Rattle.answers.proofs.Order.{state-ordered, wait-ordered, port-ordered, told-ordered, read-ordered, write-ordered, load-ordered, still-ordered}
+use Rattle.contracts.specs.Timed.{Lent, lentBy, Outcome, lentWorld, judgeWaitOf, judgePortOf, start}
+use Rattle.contracts.specs.Plain.{Told, told, stillPage, stillPicture, withPassed, withPaging}
+use Rattle.contracts.specs.Helpers.{helperCall}
+use Rattle.contracts.specs.Calls.{TimedCall, plain, mreq, noMreq, portIn, portOut, Helper, lineAddr, lineOf, columnOf, attrRowOf, attrColumnOf, colorOf, Question, byteRead, pagingRead, interruptAsked, framesAsked, pageAsked, blockAsked, shownAsked, stillAsked, help, Call, startAgain, timedCall, writeByte, writePaging, resetPassed, loadRam, ask, Result, result, withRam, withState, waited, opsOf, helpedBy, replied, performed, timedCauses, questionCauses, causesOf, refusedFilled, Typed, lentOf, handedBack, Sized, Made, buffersAfter, Obeyed, AllTyped, NotStarted, NoSecondStart}
+use Rattle.contracts.proofs.Calls.{call-numbered, call-refused}
+use Rattle.contracts.proofs.Acts.{sized-kept, start-left, start-sized, acted}
+use Rattle.contracts.proofs.AsWhole.{as-whole, as-refused}
 use Rattle.rustzx.specs.Panics.{Run, done, panics}
 use Rattle.rustzx.specs.Controller as rust
 use Rattle.rustzx.specs.Controller.{ZXController, new, withRom}
 use Rattle.rustzx.specs.Related.{ourMachine, Related}
 use Rattle.rustzx.specs.Memory.{ramPageData, blockData}
-use Rattle.rustzx.specs.Calls.{Call, Given, told, performed}
-use Rattle.surface.specs.Same.{SameLent, SameStart, SameTimed}
-use Rattle.surface.specs.Chain.{Asked, waitInternal, waitMreq, waitNoMreq, readIo, writeIo, readInternal, writeInternal, write7ffd, read7ffd, intActive, framesCount, resetFrames, loadPage, ramPage, block, shown, Typed, returned, withState, withRam, left, SameCall, AllTyped, AllSame}
+use Rattle.rustzx.specs.Calls as rustCalls
+use Rattle.rustzx.specs.Calls.{Given}
+use Rattle.surface.specs.Same.{SameLent, SameStart, SameTimed, SameHelp}
+use Rattle.surface.specs.Chain.{rustTimed, ValueOf, rustHelper, Ends, SameReply, SameAnswer, SameCall, Unaltered, leftOn, AllSame, OwnRomAsked, OwnRom, OneRom}
 use Rattle.surface.proofs.OnMachine.{own}
-use Rattle.surface.proofs.Judged.{settled}
+use Rattle.surface.proofs.Judged.{settled, rom-long}
 use Rattle.surface.proofs.StartSame.{start-same}
 use Rattle.surface.proofs.TimedSame.{wait-same, mreq-same, no-mreq-same, read-same, write-same}
 use Rattle.surface.proofs.PlainSame.{read-internal-same, read-7ffd-same, int-active-same, frames-count-same, write-internal-same, load-page-same, reset-same, write-7ffd-same}
 use Rattle.surface.proofs.PartSame.{ram-page-told-same, block-told-same, shown-told-same}
+use Rattle.surface.proofs.HelperSame.{line-addr-same, line-rel-same, col-rel-same, attr-row-same, attr-col-same, from-bits-same}
 
 -- the state that a run ends in, or else c
 holder : ZXController → Run Given → ZXController
@@ -55,21 +69,8 @@ module _ (rom : List ℕ) (c : ZXController) (l : Lent) (s : SameLent rom c l) w
   abbrev ours : ZXMachine
   ours = ourMachine (c .machine)
 
-  wait-accepts : (n : ℕ) (answer : List ℕ) (code : ℕ)
-      → Numbered code (waitCauses (l .state) (length (l .ram)) (length (l .a)) (length (l .b)) (length (l .border)) n (length answer)) → code ≡ 0
-      → judgeWaitOf l n answer ≡ Accepted bus
-  wait-accepts n answer code o z = wait-ordered (l .state) (length (l .ram)) (length (l .a)) (length (l .b)) (length (l .border)) n (length answer) .noneAccepts (o .zeroByNone z)
-
-  port-accepts : (devices answer : List ℕ) (code : ℕ)
-      → Numbered code (portCauses (l .state) devices (length (l .ram)) (length (l .a)) (length (l .b)) (length (l .border)) (length answer)) → code ≡ 0
-      → judgePortOf l devices answer ≡ Accepted bus
-  port-accepts devices answer code o z = port-ordered (l .state) devices (length (l .ram)) (length (l .a)) (length (l .b)) (length (l .border)) (length answer) .noneAccepts (o .zeroByNone z)
-
-  told-accepts : (answer : List ℕ) (code : ℕ) → Numbered code (toldCauses (l .state) (length answer)) → code ≡ 0 → judgeTold (l .state) (length answer) ≡ Accepted bus
-  told-accepts answer code o z = told-ordered (l .state) (length answer) .noneAccepts (o .zeroByNone z)
-
   -- what each form of a call leaves
-  timed-call : (k : Call) (Valued : Given → ℕ → Type 0) (o : Outcome) (x : SameTimed rom k Valued c o) → SameLent rom (x .given .controller) (o .slices)
+  timed-call : (k : rustCalls.Call) (Valued : Given → ℕ → Type 0) (o : Outcome) (x : SameTimed rom k Valued c o) → SameLent rom (x .given .controller) (o .slices)
   timed-call k Valued o x =
       rw (x .slices)
       (record {
@@ -93,114 +94,167 @@ module _ (rom : List ℕ) (c : ZXController) (l : Lent) (s : SameLent rom c l) w
   ram-call ram g r =
       record { bus = bus; isHeld = here .isHeld; machine = ap ourMachine (r .machine) ∙ here .machine; related = own (c .machine) rom (g .controller) (lentWorld bus (withRam l ram)) r }
 
-  told-call : (x : Run (List ℕ)) (g : Given) → told c x ≡ done g → SameLent rom (g .controller) l
+  told-call : (x : Run (List ℕ)) (g : Given) → rustCalls.told c x ≡ done g → SameLent rom (g .controller) l
   unfolding holder
   told-call (done bytes) g e = subst (λ (d : ZXController). SameLent rom d l) (ap (holder c) e) here
   told-call panics g e = subst (λ (d : ZXController). SameLent rom d l) (ap (holder c) e) here
 
-  -- ONE CALL, accepted.
-  pub one-call : (k : Asked) → Typed k → returned rom k l ≡ 0 → SameCall rom k c l
-  unfolding returned left performed
-  one-call (waitInternal n answer) t z =
-      let x = wait-same l bus rom c (here .machine) (here .related) n answer (wait-accepts n answer _ (contracts.wait-internal-numbered l n answer) z) in
-      record { given = x .given; ends = x .ends; answer = x; leaves = timed-call _ _ _ x }
-  one-call (waitMreq addr n answer) t z =
-      let x = mreq-same l bus rom c (here .machine) (here .related) addr n answer (wait-accepts n answer _ (contracts.wait-at-numbered l addr n answer) z) in
-      record { given = x .given; ends = x .ends; answer = x; leaves = timed-call _ _ _ x }
-  one-call (waitNoMreq addr n answer) t z =
-      let x = no-mreq-same l bus rom c (here .machine) (here .related) addr n answer (wait-accepts n answer _ (contracts.wait-at-numbered l addr n answer) z) in
-      record { given = x .given; ends = x .ends; answer = x; leaves = timed-call _ _ _ x }
-  one-call (readIo devices port answer) t z =
-      let x = read-same l bus rom c (here .machine) (here .related) devices port answer (port-accepts devices answer _ (contracts.read-io-numbered l devices port answer) z) in
-      record { given = x .given; ends = x .ends; answer = x; leaves = timed-call _ _ _ x }
-  one-call (writeIo devices port value answer) t z =
-      let x = write-same l bus rom c (here .machine) (here .related) devices port value answer t (port-accepts devices answer _ (contracts.write-io-numbered l devices port value answer) z) in
-      record { given = x .given; ends = x .ends; answer = x; leaves = timed-call _ _ _ x }
-  one-call (readInternal addr answer) t z =
-      let x = read-internal-same bus (l .ram) (l .a) (l .b) (l .border) rom c (here .machine) (here .related) (l .state) addr answer
-      (read-ordered (l .state) (length rom) (length (l .ram)) (length answer) .noneAccepts (contracts.read-internal-numbered (l .state) rom (l .ram) addr answer .zeroByNone z)) in
-      record { given = x .given; ends = x .ends; answer = x; leaves = told-call (done (rust.readInternal addr c ∷ [])) (x .given) (x .ends) }
-  one-call (writeInternal addr value) t z =
-      let x = write-internal-same bus (l .ram) (l .a) (l .b) (l .border) rom c (here .machine) (here .related) (l .state) addr value
-      (write-ordered (l .state) (length (l .ram)) .noneAccepts (contracts.write-internal-numbered (l .state) (l .ram) addr value .zeroByNone z)) in
-      record { given = x .given; ends = x .ends; answer = tt; leaves = ram-call _ (x .given) (x .related) }
-  one-call (write7ffd value answer) t z =
-      let x = write-7ffd-same bus (l .ram) (l .a) (l .b) (l .border) rom c (here .machine) (here .related) (l .state) value answer t
-      (told-accepts answer _ (contracts.write-7ffd-numbered (l .state) value answer) z) in
+  -- the Rust's call that ended
+  ended : (k : rustCalls.Call) (g : Given) → rustCalls.performed k c ≡ done g → Ends k c (g .controller)
+  ended k g e = record { given = g; ends = e; then = refl }
+
+  -- ONE TIMED CALL, accepted.
+  timed-same : (t : TimedCall) (answer : List ℕ) → Typed (timedCall t answer) → NoneHolds (timedCauses t l answer)
+      → SameTimed rom (rustTimed t) (ValueOf t) c (waited t l answer)
+  unfolding waited
+  timed-same (plain n) answer typed h = wait-same l bus rom c (here .machine) (here .related) n answer (wait-ordered (l .state) (length (l .ram)) (length (l .a)) (length (l .b)) (length (l .border)) n (length answer) .noneAccepts h)
+  timed-same (mreq addr n) answer typed h = mreq-same l bus rom c (here .machine) (here .related) addr n answer (wait-ordered (l .state) (length (l .ram)) (length (l .a)) (length (l .b)) (length (l .border)) n (length answer) .noneAccepts h)
+  timed-same (noMreq addr n) answer typed h = no-mreq-same l bus rom c (here .machine) (here .related) addr n answer (wait-ordered (l .state) (length (l .ram)) (length (l .a)) (length (l .b)) (length (l .border)) n (length answer) .noneAccepts h)
+  timed-same (portIn devices port) answer typed h = read-same l bus rom c (here .machine) (here .related) devices port answer (port-ordered (l .state) devices (length (l .ram)) (length (l .a)) (length (l .b)) (length (l .border)) (length answer) .noneAccepts h)
+  timed-same (portOut devices port value) answer typed h = write-same l bus rom c (here .machine) (here .related) devices port value answer (typed .1) (port-ordered (l .state) devices (length (l .ram)) (length (l .a)) (length (l .b)) (length (l .border)) (length answer) .noneAccepts h)
+
+  -- a question's answer and the state that it leaves
+  record Reply (q : Question) (t : Told) : Type 0 where
+    next : ZXController
+    same : SameReply rom q c next l t
+    leaves : SameLent rom next l
+
+  number-long : (q : Question) (answer : List ℕ) → NoneHolds (questionCauses q l answer) → replied q l answer .code ≡ 0
+  unfolding replied performed
+  number-long q answer h = call-numbered (ask q answer) l .noneIsZero h
+
+  -- a ROM of the machine's length is the firmware's
+  by-rom : (q : List ℕ → Question) (lent : List ℕ) → romFits (recordOf (l .state)) (length lent) ≡ true → (length lent ≡ length rom → lent ≡ rom) → (answer : List ℕ)
+      → NoneHolds (questionCauses (q lent) l answer) → (NoneHolds (questionCauses (q rom) l answer) → Reply (q rom) (replied (q rom) l answer))
+      → Reply (q lent) (replied (q lent) l answer)
+  by-rom q lent fits its answer h f =
+      let same = its (eqb-true (length lent) (specsOf (recordOf (l .state) .machine) .rom) fits ∙ sym (rom-long rom c l s)) in
+      subst (λ (r : List ℕ). NoneHolds (questionCauses (q r) l answer) → Reply (q r) (replied (q r) l answer)) (sym same) f h
+
+  still-is : (flash : ℕ) (picture : List ℕ) → judgeStill (l .state) (length (l .ram)) (length picture) flash ≡ Accepted bus
+      → stillPicture (l .state) (l .ram) picture flash .slice ≡ blocks (ramPage (stillPage (bus .machine)) (l .ram)) (eqb flash 1) 0 6144
+  unfolding stillPicture
+  still-is flash picture e = rw e
+
+  helped-same : (h : Helper) (n : ℕ) (answer : List ℕ) → length answer ≡ 5 → SameHelp (rustHelper h n) (helperCall (helpedBy h n) answer)
+  helped-same lineAddr n answer e = line-addr-same n answer e
+  helped-same lineOf n answer e = line-rel-same n answer e
+  helped-same columnOf n answer e = col-rel-same n answer e
+  helped-same attrRowOf n answer e = attr-row-same n answer e
+  helped-same attrColumnOf n answer e = attr-col-same n answer e
+  helped-same colorOf n answer e = from-bits-same n answer e
+
+  -- ONE QUESTION, answered.
+  reply-same : (q : Question) (out : List ℕ) → OwnRomAsked rom q → NoneHolds (questionCauses q l out) → Reply q (replied q l out)
+  unfolding replied rustCalls.performed
+  reply-same pagingRead answer its h =
+      let x = read-7ffd-same bus (l .ram) (l .a) (l .b) (l .border) rom c (here .machine) (here .related) (l .state) answer (told-ordered (l .state) (length answer) .noneAccepts h) in
+      record { next = x .given .controller; same = (x, ended _ (x .given) (x .ends)); leaves = told-call (done (c .currentPort7ffd ∷ [])) (x .given) (x .ends) }
+  reply-same interruptAsked answer its h =
+      let x = int-active-same bus (l .ram) (l .a) (l .b) (l .border) rom c (here .machine) (here .related) (l .state) answer (told-ordered (l .state) (length answer) .noneAccepts h) in
+      record { next = x .given .controller; same = (x, ended _ (x .given) (x .ends)); leaves = told-call (done (flagByte (rust.intActive c) ∷ [])) (x .given) (x .ends) }
+  reply-same framesAsked answer its h =
+      let x = frames-count-same bus (l .ram) (l .a) (l .b) (l .border) rom c (here .machine) (here .related) (l .state) answer (told-ordered (l .state) (length answer) .noneAccepts h) in
+      record { next = x .given .controller; same = (x, ended _ (x .given) (x .ends)); leaves = told-call (done (c .passedFrames ∷ [])) (x .given) (x .ends) }
+  reply-same (pageAsked page) answer its h =
+      let x = ram-page-told-same rom c l here page answer (number-long (pageAsked page) answer h) in
+      record { next = x .given .controller; same = (x, ended _ (x .given) (x .ends)); leaves = told-call (ramPageData (c .memory) page) (x .given) (x .ends) }
+  reply-same shownAsked answer its h =
+      let x = shown-told-same rom c l here answer (number-long shownAsked answer h) in
+      record { next = x .given .controller; same = (x, ended _ (x .given) (x .ends)); leaves = told-call (done (c .screen .buffer)) (x .given) (x .ends) }
+  reply-same (byteRead lent addr) answer its h = by-rom (λ r. byteRead r addr) lent (each (romFits (recordOf (l .state)) (length lent)) (_ ∷ _ ∷ []) (not-false _ (h .1 .1 .0)) 0) its answer h
+      (λ h. let x = read-internal-same bus (l .ram) (l .a) (l .b) (l .border) rom c (here .machine) (here .related) (l .state) addr answer (read-ordered (l .state) (length rom) (length (l .ram)) (length answer) .noneAccepts h) in
+      record { next = x .given .controller; same = (x, ended _ (x .given) (x .ends)); leaves = told-call (done (rust.readInternal addr c ∷ [])) (x .given) (x .ends) })
+  reply-same (blockAsked lent block) answer its h = by-rom (λ r. blockAsked r block) lent (each (romFits (recordOf (l .state)) (length lent)) (_ ∷ _ ∷ []) (not-false _ (h .1 .1 .0)) 0) its answer h
+      (λ h. let x = block-told-same rom c l here block answer (number-long (blockAsked rom block) answer h) in
+      record { next = x .given .controller; same = (x, ended _ (x .given) (x .ends)); leaves = told-call (blockData (c .memory) block) (x .given) (x .ends) })
+  reply-same (stillAsked flash) picture its h =
+      record { next = c; same = (still-is flash picture (still-ordered (l .state) (length (l .ram)) (length picture) flash .noneAccepts h), refl); leaves = s }
+  reply-same (help helper n) answer its h = record { next = c; same = (helped-same helper n answer (eqb-true (length answer) 5 (not-false _ (h .0))), refl); leaves = s }
+
+  -- ---- ONE CALL, accepted, on the buffers that hold the Rust's machine.
+  pub one-call : (k : Call) → NotStarted k 0 → Typed k → OwnRom rom k → NoneHolds (causesOf k l) → SameCall rom k c l (performed k l)
+  unfolding performed
+  one-call (startAgain machine) first typed its h = absurd (first refl)
+  one-call (timedCall t answer) first typed its h =
+      let x = timed-same t answer typed h in
+      record { next = x .given .controller; answer = (x, ended _ (x .given) (x .ends)); leaves = timed-call _ _ _ x }
+  one-call (writeByte addr value) first typed its h =
+      let x = write-internal-same bus (l .ram) (l .a) (l .b) (l .border) rom c (here .machine) (here .related) (l .state) addr value (write-ordered (l .state) (length (l .ram)) .noneAccepts h) in
+      record { next = x .given .controller; answer = ended _ (x .given) (x .ends); leaves = ram-call _ (x .given) (x .related) }
+  one-call (writePaging value answer) first typed its h =
+      let x = write-7ffd-same bus (l .ram) (l .a) (l .b) (l .border) rom c (here .machine) (here .related) (l .state) value answer typed (told-ordered (l .state) (length answer) .noneAccepts h) in
       let move = x .2 in
       record {
-        given = move .given;
-        ends = move .ends;
-        answer = x .1;
+        next = move .given .controller;
+        answer = (x .1, ended _ (move .given) (move .ends));
         leaves = record-call (withPaging (pagingAfter (paging.write7ffd m (bus .paging) value) (bus .paging)) bus) _ (here .machine) (x .0) (move .given) (move .sound) (move .related);
       }
-  one-call (read7ffd answer) t z =
-      let x = read-7ffd-same bus (l .ram) (l .a) (l .b) (l .border) rom c (here .machine) (here .related) (l .state) answer
-      (told-accepts answer _ (contracts.read-7ffd-numbered (l .state) answer) z) in
-      record { given = x .given; ends = x .ends; answer = x; leaves = told-call (done (c .currentPort7ffd ∷ [])) (x .given) (x .ends) }
-  one-call (intActive answer) t z =
-      let x = int-active-same bus (l .ram) (l .a) (l .b) (l .border) rom c (here .machine) (here .related) (l .state) answer
-      (told-accepts answer _ (contracts.int-active-numbered (l .state) answer) z) in
-      record { given = x .given; ends = x .ends; answer = x; leaves = told-call (done (flagByte (rust.intActive c) ∷ [])) (x .given) (x .ends) }
-  one-call (framesCount answer) t z =
-      let x = frames-count-same bus (l .ram) (l .a) (l .b) (l .border) rom c (here .machine) (here .related) (l .state) answer
-      (told-accepts answer _ (contracts.frames-count-numbered (l .state) answer) z) in
-      record { given = x .given; ends = x .ends; answer = x; leaves = told-call (done (c .passedFrames ∷ [])) (x .given) (x .ends) }
-  one-call resetFrames t z =
-      let x = reset-same bus (l .ram) (l .a) (l .b) (l .border) rom c (here .machine) (here .related) (l .state)
-      (state-ordered (l .state) .noneAccepts (contracts.reset-frames-numbered (l .state) .zeroByNone z)) in
+  one-call resetPassed first typed its h =
+      let x = reset-same bus (l .ram) (l .a) (l .b) (l .border) rom c (here .machine) (here .related) (l .state) (state-ordered (l .state) .noneAccepts h) in
       let move = x .1 in
       record {
-        given = move .given;
-        ends = move .ends;
-        answer = tt;
+        next = move .given .controller;
+        answer = ended _ (move .given) (move .ends);
         leaves = record-call (withPassed 0 bus) _ (here .machine) (x .0) (move .given) (move .sound) (move .related);
       }
-  one-call (loadPage bytes number) t z =
-      let x = load-page-same bus (l .ram) (l .a) (l .b) (l .border) rom c (here .machine) (here .related) (l .state) bytes number
-      (load-ordered (l .state) (length (l .ram)) (length bytes) number .noneAccepts (contracts.load-page-numbered (l .state) (l .ram) bytes number .zeroByNone z)) in
-      record { given = x .given; ends = x .ends; answer = tt; leaves = ram-call _ (x .given) (x .related) }
-  one-call (ramPage number answer) t z =
-      let x = ram-page-told-same rom c l here number answer z in
-      record { given = x .given; ends = x .ends; answer = x; leaves = told-call (ramPageData (c .memory) number) (x .given) (x .ends) }
-  one-call (block number answer) t z =
-      let x = block-told-same rom c l here number answer z in
-      record { given = x .given; ends = x .ends; answer = x; leaves = told-call (blockData (c .memory) number) (x .given) (x .ends) }
-  one-call (shown answer) t z =
-      let x = shown-told-same rom c l here answer z in
-      record { given = x .given; ends = x .ends; answer = x; leaves = told-call (done (c .screen .buffer)) (x .given) (x .ends) }
+  one-call (loadRam bytes page) first typed its h =
+      let x = load-page-same bus (l .ram) (l .a) (l .b) (l .border) rom c (here .machine) (here .related) (l .state) bytes page
+      (load-ordered (l .state) (length (l .ram)) (length bytes) page .noneAccepts h) in
+      record { next = x .given .controller; answer = ended _ (x .given) (x .ends); leaves = ram-call _ (x .given) (x .related) }
+  one-call (ask q out) first typed its h = let x = reply-same q out its h in record { next = x .next; answer = x .same; leaves = x .leaves }
 
--- ONE CALL, refused: "writes nothing else".
-pub refused-call : (rom : List ℕ) (l : Lent) (k : Asked) → (returned rom k l ≡ 0 → ⊥) → left k l ≡ l
-unfolding returned left
-refused-call rom l (waitInternal n answer) z = contracts.wait-internal-unaltered l n answer z .0
-refused-call rom l (waitMreq addr n answer) z = contracts.wait-at-unaltered l addr n answer z .0
-refused-call rom l (waitNoMreq addr n answer) z = contracts.wait-at-unaltered l addr n answer z .0
-refused-call rom l (readIo devices port answer) z = contracts.read-io-unaltered l devices port answer z .0
-refused-call rom l (writeIo devices port value answer) z = contracts.write-io-unaltered l devices port value answer z .0
-refused-call rom l (readInternal addr answer) z = refl
-refused-call rom l (writeInternal addr value) z = ap (withRam l) (contracts.write-internal-unaltered (l .state) (l .ram) addr value z)
-refused-call rom l (write7ffd value answer) z = ap (withState l) (contracts.write-7ffd-unaltered (l .state) value answer z .0)
-refused-call rom l (read7ffd answer) z = refl
-refused-call rom l (intActive answer) z = refl
-refused-call rom l (framesCount answer) z = refl
-refused-call rom l resetFrames z = ap (withState l) (contracts.reset-frames-unaltered (l .state) z)
-refused-call rom l (loadPage bytes number) z = ap (withRam l) (contracts.load-page-unaltered (l .state) (l .ram) bytes number z)
-refused-call rom l (ramPage number answer) z = refl
-refused-call rom l (block number answer) z = refl
-refused-call rom l (shown answer) z = refl
-
--- ANY CALLS, from slices that hold the Rust's machine.
-pub all-same : (rom : List ℕ) (ks : List Asked) → AllTyped ks → (c : ZXController) (l : Lent) → SameLent rom c l → AllSame rom ks c l
-all-same rom [] t c l s = s
-all-same rom (k ∷ ks) t c l s = (
-  λ z. let x = one-call rom c l s k (t .0) z in (x, all-same rom ks (t .1) (x .given .controller) (left k l) (x .leaves)),
-  λ z. let e = refused-call rom l k z in (e, all-same rom ks (t .1) c (left k l) (subst (SameLent rom c) (sym e) s)),
-)
+-- ---- ANY CALLS, whatever each is lent, from the buffers of a sound machine that hold the Rust's.
+module _ (rom : List ℕ) (m : ZXMachine) where
+  pub all-same : (cs : List Made) (w : World) → SoundWorld m w → Sized m w → Obeyed cs (lentBy m w) → AllTyped cs → NoSecondStart cs → OneRom rom cs
+      → (c : ZXController) → SameLent rom c (lentBy m w) → AllSame rom cs c (lentBy m w)
+  all-same [] w sound sized obeyed typed first its c s = s
+  all-same (k ∷ cs) w sound sized obeyed typed first its c s =
+      let l = lentBy m w in
+      let part = lentOf (k .lending) l in
+      let code = ap (λ (r : Result). r .code) (obeyed .0) in (
+        subst (λ (r : Result). Numbered (r .code) (causesOf (k .call) part)) (sym (obeyed .0)) (call-numbered (k .call) part),
+        λ z.
+            let started = subst (NotStarted (k .call)) z (first .0) in
+            let same : leftOn k l ≡ performed (k .call) l =
+            ap (λ (r : Result). result (r .code) (handedBack (k .lending) l (r .slices)) (r .filled)) (obeyed .0)
+            ∙ as-whole m w sound sized (k .lending) (k .call) started (typed .0) (sym code ∙ z) in
+            let none = call-numbered (k .call) l .zeroByNone (ap (λ (r : Result). r .code) (sym same) ∙ z) in
+            let a = acted m w sound sized (k .call) started (typed .0) none in
+            let x = one-call rom c l s (k .call) started (typed .0) (its .0) none in
+            let w′ = worldAfter m (opsOf m (k .call) (w .core)) w in
+            let after : buffersAfter k l ≡ lentBy m w′ = ap (λ (r : Result). r .slices) same ∙ a .slices in (
+              record {
+                next = x .next;
+                answer = subst (SameAnswer rom (k .call) c (x .next) l) (sym same) (x .answer);
+                leaves = subst (λ (r : Result). SameLent rom (x .next) (r .slices)) (sym same) (x .leaves);
+              },
+              subst (AllSame rom cs (x .next)) (sym after)
+                  (all-same cs w′ (a .kept .sound) (sized-kept m w w′ sized (a .kept .lengths)) (subst (Obeyed cs) after (obeyed .1)) (typed .1) (first .1) (its .1) (x .next)
+                  (subst (SameLent rom (x .next)) (a .slices) (x .leaves))),
+            ),
+        λ z.
+            let refused : performed (k .call) part .code ≡ 0 → ⊥ = λ e. z (code ∙ e) in
+            let after : buffersAfter k l ≡ l = ap (λ (r : Result). handedBack (k .lending) l (r .slices)) (obeyed .0) ∙ as-refused (k .lending) l (k .call) refused in (
+              record {
+                buffers = after;
+                filled = ap (λ (r : Result). r .filled) (obeyed .0 ∙ call-refused part (k .call) refused) ∙ ap (refusedFilled (k .call)) (sym code);
+              },
+              subst (AllSame rom cs c) (sym after) (all-same cs w sound sized (subst (Obeyed cs) after (obeyed .1)) (typed .1) (first .1) (its .1) c s),
+            ),
+      )
 
 -- A START, AND THEN ANY CALLS.
 pub from-start : (l : Lent) (number : ℕ) (rom : List ℕ) → length rom ≡ specsOf (machineOf number) .rom → start l number .code ≡ 0
-    → (s : SameStart number rom (start l number)) × ((ks : List Asked) → AllTyped ks → AllSame rom ks (withRom rom (new (s .machine))) (start l number .slices))
+    → (s : SameStart number rom (start l number)) × ((cs : List Made) → Obeyed cs (start l number .slices) → AllTyped cs → NoSecondStart cs → OneRom rom cs
+    → AllSame rom cs (withRom rom (new (s .machine))) (start l number .slices))
 from-start l number rom long z =
     let s = start-same l number rom long z in
-    (s, λ ks t. all-same rom ks t (withRom rom (new (s .machine))) (start l number .slices) (s .leaves))
+    let m = machineOf number in
+    let e = start-left l number z in (
+      s,
+      λ cs obeyed typed first its.
+          subst (AllSame rom cs (withRom rom (new (s .machine)))) (sym e)
+          (all-same rom m cs (started m) (started-sound m) (start-sized m) (subst (Obeyed cs) e obeyed) typed first its (withRom rom (new (s .machine)))
+          (subst (SameLent rom (withRom rom (new (s .machine)))) e (s .leaves))),
+    )
