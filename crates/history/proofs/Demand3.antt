@@ -5,17 +5,17 @@
 use Prim.Native.Nat.{ℕ, _+_, _*_}
 use mathlib.Core.List.{List, [], _∷_, _++_}
 use mathlib.Core.Path.{_≡_, refl, sym, _∙_, ap, subst}
-use lib.ListN.{length, getD, drop, length-replicate}
+use lib.ListN.{length, getD, drop}
 use Rattle.laws.proofs.Cases.{by-lt}
 use Rattle.machine.specs.declared.ZXMachine.{ZXMachine}
 use Rattle.machine.specs.Numbers.{specsOf}
-use Rattle.bus.specs.World.{World, clearRam, started}
+use Rattle.bus.specs.World.{World, started}
 use Rattle.bus.proofs.Kept.{SoundWorld, started-sound}
 use Rattle.contracts.specs.Timed.{Lent, lentBy}
 use Rattle.history.specs.Log.{drawn, older}
 use Rattle.history.specs.Calls.{Kind, Call, Left, called, reportedClocks, reportedBlocks, reportedClosed, Typed, AllTyped, Sums, summed, EachCall, NoStart, NoSecondStart, PortTakes}
 use Rattle.history.specs.Demand.{callOps, Told, tell, tellAll, begun, history, bytesAfter, paintedTo, Demand3}
-use Rattle.history.proofs.Operations.{Inv, ops-kept, start-kept, picture-size, border-size}
+use Rattle.history.proofs.Operations.{Inv, ops-kept, fresh-kept, started-fresh, picture-size, border-size, ram-size}
 use Rattle.history.proofs.Whole.{Sized}
 use Rattle.history.proofs.Tied.{tied, port-takes}
 
@@ -24,7 +24,7 @@ pub record Standing (m : ZXMachine) (h : Told) (s : Sums) : Type 0 where
   pub slices : s .slices ≡ lentBy m (h .world)
   pub sound : SoundWorld m (h .world)
   pub sized : Sized m (h .world)
-  pub inv : Inv m (s .clocks) (s .blocks) (s .closed) (h .world) (h .log) (h .stills)
+  pub inv : Inv m (started m .edge .colour) (s .clocks) (s .blocks) (s .closed) (h .world) (h .log) (h .stills)
 
 -- the sums with one call more
 abbrev pub counted : Left → Sums → Sums
@@ -38,18 +38,14 @@ counted r s =
 
 module _ (m : ZXMachine) where
   -- a start
-  ram-size : length (clearRam m) ≡ specsOf m .ram
-  unfolding clearRam
-  ram-size = length-replicate {A = ℕ} (specsOf m .ram) 0
-
   start-stands : Standing m (begun m) (bytesAfter m [])
   unfolding summed
   start-stands =
       record {
         slices = refl;
         sound = started-sound m;
-        sized = record { ram = ram-size; a = picture-size; b = picture-size; pixels = border-size };
-        inv = start-kept m;
+        sized = record { ram = ram-size m; a = picture-size; b = picture-size; pixels = border-size };
+        inv = fresh-kept m (started m) (started-fresh m);
       }
 
   -- one call more
@@ -68,7 +64,7 @@ module _ (m : ZXMachine) where
         sized = k .sized;
         inv =
             rw (k .clocks, k .blocks, k .closed)
-            (ops-kept m os (s .clocks) (s .blocks) (s .closed) (h .world) (h .log) (h .stills) (k .small) (i .inv));
+            (ops-kept m (started m .edge .colour) os (s .clocks) (s .blocks) (s .closed) (h .world) (h .log) (h .stills) (k .small) (i .inv));
       })
 
   -- any calls
@@ -115,7 +111,7 @@ module _ (m : ZXMachine) where
         shown = pictures .shown-is;
         hidden =
             pictures .hidden-is
-            ∙ ap (λ (n : ℕ). drawn (h .log .current .looks) ++ drop (8 * n) (older (h .log .done))) (pictures .at-last);
+            ∙ ap (λ (n : ℕ). drawn (h .log .current .sights) ++ drop (8 * n) (older (h .log .done))) (pictures .at-last);
         border = λ pixel p.
             by-lt (λ (x : ℕ). getD (edge .pixels) pixel 0 ≡ x) pixel (paintedTo edge) (λ q. i .inv .border .filled-is pixel q)
             (λ q. i .inv .border .rest pixel q p);

@@ -1,4 +1,5 @@
 pub mod Time
+pub mod Seen
 pub mod Pictures
 pub mod Borders
 pub mod Drawn

@@ -8,9 +8,7 @@ use mathlib.Core.Logic.{_⊎_, ⊎-elim, inl, inr}
 use mathlib.Core.Path.{_≡_, refl, sym, _∙_, ap, subst}
 use native.Mathlib.Omega.{arith}
 use native.Mathlib.Nat.{mul-add-div-right, div-eq-of-lt, add-zero}
-use native.Mathlib.Decide.{decLt}
 use lib.ListN.{length, getD}
-use borrow.Author.Tests.{lt-ltb, le-ltb}
 use Rattle.machine.specs.declared.ZXMachine.{ZXMachine}
 use Rattle.machine.specs.Numbers.{specsOf}
 use Rattle.machine.specs.Timing.{blockPosition}
@@ -26,12 +24,11 @@ use Rattle.bus.specs.Turns.{closedBy}
 use Rattle.bus.proofs.OneStep.{core-goes, screen-closed, screen-goes, closes-at}
 use Rattle.bus.proofs.Closing.{completed, closing-shows}
 use Rattle.contracts.specs.Timed.{Lent, lentBy}
-use Rattle.history.specs.Log.{Still, Frame, Shows, AllShow, lastAt, Rising, reaching, blockBy, colourAt}
+use Rattle.history.specs.Log.{Shot, Frame, Shows, AllShow}
 use Rattle.history.specs.Calls.{lend, Lens, plain, Call, called, reportedClosed, Typed, AllTyped, EachCall, NoStart, NoSecondStart}
 use Rattle.history.specs.Demand.{callOps, history, bytesAfter}
 use Rattle.history.proofs.Time.{count}
 use Rattle.history.proofs.Pictures.{hidden-caught, shown-caught}
-use Rattle.history.proofs.Drawn.{shows-block}
 use Rattle.history.proofs.Operations.{closings}
 use Rattle.history.proofs.Whole.{LentWhole}
 use Rattle.history.proofs.Judging.{never-unsound, wait-accepted, wait-refused}
@@ -41,75 +38,18 @@ use Rattle.history.proofs.Demand3.{history-stands, demand3, each-call}
 -- ---- each completed frame
 
 -- completed frames by number, 0 the newest: what was logged of each, and what memory held as it closed
-abbrev pub noLook : Look
-noLook = record { at = 0; ram = []; page = 0; flash = false }
-
 abbrev pub noFrame : Frame
-noFrame = record { looks = []; enter = 0; inks = [] }
+noFrame = record { sights = []; enter = 0; inks = [] }
 
-abbrev pub noStill : Still
-noStill = record { picture = []; border = [] }
+abbrev pub noShot : Shot
+noShot = record { picture = []; border = [] }
 
-pub each-shows : (ss : List Still) (fs : List Frame) → AllShow ss fs → (i : ℕ) → i < length fs → Shows (getD ss i noStill) (getD fs i noFrame)
+each-shows : (ss : List Shot) (fs : List Frame) → AllShow ss fs → (i : ℕ) → i < length fs → Shows (getD ss i noShot) (getD fs i noFrame)
 each-shows [] [] h i p = absurd (omega arith)
 each-shows [] (f ∷ fs) h i p = absurd h
 each-shows (s ∷ ss) [] h i p = absurd h
 each-shows (s ∷ ss) (f ∷ fs) h zero p = h .0
 each-shows (s ∷ ss) (f ∷ fs) h (suc i) p = each-shows ss fs (h .1) i (omega arith)
-
--- the catch-up of a frame that reached block k
-abbrev pub reached : ℕ → List Look → Look
-reached k [] = noLook
-reached k (l ∷ ls) = reaching k l ls
-
--- it is the one whose position is past k where the one before it was not
-pub record Reached (k : ℕ) (looks : List Look) (l : Look) : Type 0 where
-  pub newer : List Look
-  pub earlier : List Look
-  pub among : looks ≡ newer ++ l ∷ earlier
-  pub before : lastAt earlier ≤ k
-  pub past : k < l .at
-
-reaching-is : (k : ℕ) (l : Look) (ls : List Look) → k < l .at → Reached k (l ∷ ls) (reaching k l ls)
-unfolding reaching
-reaching-is k l [] h = record { newer = []; earlier = []; among = refl; before = omega arith; past = h }
-reaching-is k l (f ∷ ls) h =
-    elim (decLt k (f .at)) [
-      | yes p ↦
-          let r = reaching-is k f ls p in
-          rw (lt-ltb k (f .at) p)
-          (record { newer = l ∷ r .newer; earlier = r .earlier; among = ap (λ (xs : List Look). l ∷ xs) (r .among); before = r .before; past = r .past })
-      | no q ↦ rw (le-ltb k (f .at) (omega arith)) (record { newer = []; earlier = f ∷ ls; among = refl; before = omega arith; past = h })
-    ]
-
-pub reached-is : (k : ℕ) (looks : List Look) → k < lastAt looks → Reached k looks (reached k looks)
-reached-is k [] h = absurd (omega arith)
-reached-is k (l ∷ ls) h = reaching-is k l ls h
-
--- and there is no other: "once"
-rising-last : (newer : List Look) (l : Look) (earlier : List Look) → Rising (newer ++ l ∷ earlier) → l .at ≤ lastAt (newer ++ l ∷ earlier)
-rising-last [] l earlier r = omega arith
-rising-last (x ∷ newer) l earlier r = omega (arith, r .0, rising-last newer l earlier (r .1))
-
-reached-once : (newer : List Look) (l : Look) (earlier : List Look) (k : ℕ) → Rising (newer ++ l ∷ earlier) → lastAt earlier ≤ k → k < l .at
-    → reached k (newer ++ l ∷ earlier) ≡ l
-unfolding reaching
-reached-once [] l [] k r h p = refl
-reached-once [] l (f ∷ ls) k r h p = rw (le-ltb k (f .at) h)
-reached-once (x ∷ []) l earlier k r h p = rw (lt-ltb k (l .at) p) (reached-once [] l earlier k (r .1) h p)
-reached-once (x ∷ y ∷ newer) l earlier k r h p =
-    let far : k < y .at = omega (arith, rising-last (y ∷ newer) l earlier (r .1)) in
-    rw (lt-ltb k (y .at) far) (reached-once (y ∷ newer) l earlier k (r .1) h p)
-
-pub only-one : (k : ℕ) (looks : List Look) (l : Look) → Rising looks → Reached k looks l → reached k looks ≡ l
-only-one k looks l r x =
-    ap (reached k) (x .among) ∙ reached-once (x .newer) l (x .earlier) k (rw (x .among) at r) (x .before) (x .past)
-
--- the block of a shown frame, by the catch-up that reached it
-block-by : (s : Still) (f : Frame) (looks : List Look) → f .looks ≡ looks → Shows s f → (k j : ℕ) → k < 6144 → j < 8
-    → getD (s .picture) (8 * k + j) 0 ≡ getD (blockBy (reached k looks) k) j 0
-block-by s f [] e h k j p q = let none : _≡_ {A = ℕ} 0 6144 = (rw e at (h .whole)) in absurd (omega arith)
-block-by s f (l ∷ ls) e h k j p q = shows-block s f h l ls e k j p q
 
 whole-frames : (frame frames clock clocks : ℕ) → clock < frame → clocks ≡ frames * frame + clock → frames ≡ clocks / frame
 whole-frames frame frames clock clocks h e =
@@ -117,35 +57,9 @@ whole-frames frame frames clock clocks h e =
 
 module _ (m : ZXMachine) (cs : List Call) (typed : AllTyped cs) (first : NoSecondStart cs (lentBy m (started m))) where
   -- "Each completed frame has painted each of its 6,144 blocks once, in raster order, with the bytes, shown page and flash held when its
-  -- catch-up reached it": block k of completed frame i, in the picture as it stood when the frame closed
-  pub each-block : (i k j : ℕ) → i < length (history m cs .log .done) → k < 6144 → j < 8
-      → getD (getD (history m cs .stills) i noStill .picture) (8 * k + j) 0
-      ≡ getD (blockBy (reached k (getD (history m cs .log .done) i noFrame .looks)) k) j 0
-  each-block i k j h p q =
-      let f = getD (history m cs .log .done) i noFrame in
-      block-by (getD (history m cs .stills) i noStill) f (f .looks) refl
-      (each-shows (history m cs .stills) (history m cs .log .done) (demand3 m cs typed first .frames) i h) k j p q
-
-  -- and such a catch-up there was, for each of the 6,144,
-  pub each-reached : (i k : ℕ) → i < length (history m cs .log .done) → k < 6144
-      → Reached k (getD (history m cs .log .done) i noFrame .looks) (reached k (getD (history m cs .log .done) i noFrame .looks))
-  each-reached i k h p =
-      let s = each-shows (history m cs .stills) (history m cs .log .done) (demand3 m cs typed first .frames) i h in
-      reached-is k (getD (history m cs .log .done) i noFrame .looks) (omega (arith, s .whole))
-
-  -- and one only
-  pub each-once : (i k : ℕ) (l : Look) → i < length (history m cs .log .done) → Reached k (getD (history m cs .log .done) i noFrame .looks) l
-      → reached k (getD (history m cs .log .done) i noFrame .looks) ≡ l
-  each-once i k l h x =
-      let s = each-shows (history m cs .stills) (history m cs .log .done) (demand3 m cs typed first .frames) i h in
-      only-one k (getD (history m cs .log .done) i noFrame .looks) l (s .rising) x
-
-  -- "each border pixel has the colour last written at or before it": of completed frame i, in the border as it stood when the frame closed
-  pub each-border-pixel : (i pixel : ℕ) → i < length (history m cs .log .done) → pixel < 76800
-      → getD (getD (history m cs .stills) i noStill .border) pixel 0
-      ≡ colourAt pixel (getD (history m cs .log .done) i noFrame .enter) (getD (history m cs .log .done) i noFrame .inks)
-  each-border-pixel i pixel h p =
-      each-shows (history m cs .stills) (history m cs .log .done) (demand3 m cs typed first .frames) i h .border pixel p
+  -- catch-up reached it; each border pixel has the colour last written at or before it": completed frame i, as it stood when it closed
+  pub each-frame : (i : ℕ) → i < length (history m cs .log .done) → Shows (getD (history m cs .stills) i noShot) (getD (history m cs .log .done) i noFrame)
+  each-frame i h = each-shows (history m cs .stills) (history m cs .log .done) (demand3 m cs typed first .frames) i h
 
   -- ---- frames do complete
 

@@ -15,7 +15,7 @@ use Rattle.bus.specs.Time.{Op, colour, shownPicture, hiddenPicture, worldAfter}
 use Rattle.bus.specs.Pokes.{byteWrite, pageLoad, passedReset}
 use Rattle.bus.specs.Calls.{plainWait, addressWait, portRead, portWrite, pagingWrite}
 use Rattle.contracts.specs.Timed.{lentBy}
-use Rattle.history.specs.Log.{Log, Still, follow, film, blank, lastAt, drawn, colourAt, newest, older, borderOf, AllShow, Chained}
+use Rattle.history.specs.Log.{Log, Shot, follow, film, blank, lastAt, drawn, borderColour, newest, older, borderOf, AllShow, Chained}
 use Rattle.history.specs.Calls.{Kind, startAgain, plain, mreq, noMreq, portIn, portOut, readByte, writeByte, writePaging, readPaging, askInterrupt, askFrames, resetPassed, loadRam, askPage, askBlock, askShown, still, helpLineAddr, helpLine, helpColumn, helpAttrRow, helpAttrColumn, helpColor, Call, called, EachCall, PortTakes, Sums, summed}
 
 -- the operations of an accepted call, which the core decides; of a second start there is no history
@@ -63,7 +63,7 @@ callOps m c core = cond (eqb (called c (lentBy m (blind core)) .code) 0) (opsOf 
 pub record Told : Type 0 where
   pub world : World
   pub log : Log
-  pub stills : List Still
+  pub stills : List Shot
 
 unfoldable pub tell : ZXMachine → Call → Told → Told
 tell m c t =
@@ -80,7 +80,7 @@ tellAll m (c ∷ cs) t = tellAll m cs (tell m c t)
 
 -- "after a start"
 abbrev pub begun : ZXMachine → Told
-begun m = record { world = started m; log = blank; stills = [] }
+begun m = record { world = started m; log = blank (started m .edge .colour); stills = [] }
 
 abbrev pub history : ZXMachine → List Call → Told
 history m cs = tellAll m cs (begun m)
@@ -102,20 +102,20 @@ pub record Demand3 (m : ZXMachine) (cs : List Call) (h : Told) (s : Sums) : Type
   -- "Clocks reported sum to all completed frames' clocks plus the frame clock."
   pub clocks : s .clocks ≡ length (h .log .done) * specsOf m .frame + h .world .core .clock
   -- "Blocks reported sum to 6,144 per completed frame plus the current frame's position at its last catch-up (0 before its first)."
-  pub blocks : s .blocks ≡ length (h .log .done) * 6144 + lastAt (h .log .current .looks)
+  pub blocks : s .blocks ≡ length (h .log .done) * 6144 + lastAt (h .log .current .sights)
   -- "Each completed frame has painted each of its 6,144 blocks once, in raster order, with the bytes, shown page and flash held when its
   -- catch-up reached it; each border pixel has the colour last written at or before it"
   pub frames : AllShow (h .stills) (h .log .done)
   -- "the start's colour being the first"
-  pub colours : Chained (h .log .current) (h .log .done)
+  pub colours : Chained (started m .edge .colour) (h .log .current) (h .log .done)
   -- between calls: the shown picture is the newest completed frame's
   pub shown : shownPicture (h .world .core) (h .world .screen) ≡ newest (h .log .done)
   -- the hidden picture: what this frame has drawn, and behind it the frame before the newest
   pub hidden : hiddenPicture (h .world .core) (h .world .screen)
-      ≡ drawn (h .log .current .looks) ++ drop (8 * lastAt (h .log .current .looks)) (older (h .log .done))
+      ≡ drawn (h .log .current .sights) ++ drop (8 * lastAt (h .log .current .sights)) (older (h .log .done))
   -- the border: this frame's as far as it is painted, and behind that the newest completed frame's
   pub border : (pixel : ℕ) → pixel < 76800
       → getD (h .world .edge .pixels) pixel 0
-      ≡ cond (ltb pixel (paintedTo (h .world .edge))) (colourAt pixel (h .log .current .enter) (h .log .current .inks)) (borderOf (h .log .done) pixel)
+      ≡ cond (ltb pixel (paintedTo (h .world .edge))) (borderColour pixel (h .log .current .enter) (h .log .current .inks)) (borderOf (h .log .done) pixel)
   -- "No accepted port call takes under 4 or over 16 clocks."
   pub ports : EachCall PortTakes cs (lentBy m (started m))

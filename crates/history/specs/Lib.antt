@@ -1,3 +1,4 @@
 pub mod Log
+pub mod Fresh
 pub mod Calls
 pub mod Demand
