@@ -8,14 +8,14 @@ use mathlib.Core.Path.{_≡_, refl, sym, _∙_, ap, subst}
 use lib.ListN.{length, getD, drop}
 use Rattle.laws.proofs.Cases.{by-lt}
 use Rattle.machine.specs.declared.ZXMachine.{ZXMachine}
-use Rattle.machine.specs.Numbers.{specsOf}
 use Rattle.bus.specs.World.{World, started}
 use Rattle.bus.proofs.Kept.{SoundWorld, started-sound}
 use Rattle.contracts.specs.Timed.{Lent, lentBy}
 use Rattle.history.specs.Log.{drawn, older}
 use Rattle.history.specs.Calls.{Kind, Call, Left, called, reportedClocks, reportedBlocks, reportedClosed, Typed, AllTyped, Sums, summed, EachCall, NoStart, NoSecondStart, PortTakes}
 use Rattle.history.specs.Demand.{callOps, Told, tell, tellAll, begun, history, bytesAfter, paintedTo, Demand3}
-use Rattle.history.proofs.Operations.{Inv, ops-kept, fresh-kept, started-fresh, picture-size, border-size, ram-size}
+use Rattle.history.proofs.Operations.{Inv, ops-kept}
+use Rattle.history.proofs.Fresh.{fresh-kept, fresh-sized, started-fresh}
 use Rattle.history.proofs.Whole.{Sized}
 use Rattle.history.proofs.Tied.{tied, port-takes}
 
@@ -44,7 +44,7 @@ module _ (m : ZXMachine) where
       record {
         slices = refl;
         sound = started-sound m;
-        sized = record { ram = ram-size m; a = picture-size; b = picture-size; pixels = border-size };
+        sized = fresh-sized m (started m) (started-fresh m);
         inv = fresh-kept m (started m) (started-fresh m);
       }
 

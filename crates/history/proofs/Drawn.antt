@@ -3,7 +3,7 @@
 use Prim.Native.Nat.{ℕ, zero, suc, _+_, _-_, _*_, _≤_, _<_}
 use mathlib.Core.Bool.{Bool}
 use mathlib.Core.List.{List, [], _∷_, _++_}
-use mathlib.Core.Path.{_≡_, refl, sym, _∙_, ap}
+use mathlib.Core.Path.{_≡_, refl, _∙_, ap}
 use native.Mathlib.Omega.{arith}
 use lib.ListN.{length, take, drop, length-append, length-drop}
 use lib.Seq.{take-all, take-append-le, drop-append-le, drop-append-add, drop-at}
@@ -12,7 +12,7 @@ use Rattle.laws.proofs.Cases.{split}
 use Rattle.paint.specs.Paint.{blockAt, blocks}
 use Rattle.paint.proofs.Painting.{eight-pixels, length-blocks}
 use Rattle.memory.specs.Memory.{ramPage}
-use Rattle.history.specs.Log.{Sight, lastAt, paints, timesPainted, reaching, blockBy, blockIn, drawn, drawnBy, Rising}
+use Rattle.history.specs.Log.{Sight, lastAt, timesPainted, reaching, blockBy, blockIn, drawn, drawnBy, Rising}
 
 -- a block of what stands in front, and of what stands behind p blocks
 pub in-front : (xs ys : List ℕ) (k : ℕ) → 8 * k + 8 ≤ length xs → blockIn (xs ++ ys) k ≡ blockIn xs k

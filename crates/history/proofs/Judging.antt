@@ -44,7 +44,7 @@ use Rattle.contracts.specs.Plain.{Told, codeOf, tell, change, repage, withPasse
 use Rattle.contracts.specs.Helpers.{help, helperCall, colorHelped, bitmapLineAddr, bitmapLineRel, bitmapColRel, attrRowRel, attrColRel, colorFromBits}
 use Rattle.history.specs.Calls.{Loan, lend, Lens, lentOf, Kind, startAgain, plain, mreq, noMreq, portIn, portOut, readByte, writeByte, writePaging, readPaging, askInterrupt, askFrames, resetPassed, loadRam, askPage, askBlock, askShown, still, helpLineAddr, helpLine, helpColumn, helpAttrRow, helpAttrColumn, helpColor, performed, called}
 use Rattle.history.specs.Demand.{blind}
-use Rattle.history.proofs.Operations.{picture-size, border-size}
+use Rattle.history.proofs.Fresh.{picture-size, border-size}
 use Rattle.history.proofs.Whole.{Sized, same-lent, loan-whole, LentWhole}
 
 -- the lengths of the slices that hold no record

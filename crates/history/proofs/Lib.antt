@@ -4,9 +4,12 @@ pub mod Pictures
 pub mod Borders
 pub mod Drawn
 pub mod Operations
+pub mod Fresh
 pub mod Whole
 pub mod Judging
 pub mod Counts
+pub mod Ends
+pub mod Held
 pub mod Tied
 pub mod Demand3
 pub mod Sentences

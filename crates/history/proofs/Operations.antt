@@ -1,26 +1,22 @@
 -- What demand 3 says is kept by each operation, and so by any list of operations.
 -- Assumes nothing.
-use Prim.Native.Nat.{ℕ, _+_, _-_, _*_, _<_}
-use mathlib.Core.Bool.{Bool, true, false, cond}
+use Prim.Native.Nat.{ℕ, _+_, _-_}
+use mathlib.Core.Bool.{Bool, true, false}
 use mathlib.Core.List.{List, [], _∷_}
 use mathlib.Core.Path.{_≡_, refl, sym, ap, _∙_}
 use native.Mathlib.Omega.{arith}
 use native.Mathlib.Nat.{add-assoc, add-zero}
-use lib.ListN.{length, getD, drop, length-replicate, getD-replicate}
 use Rattle.machine.specs.declared.ZXMachine.{ZXMachine}
 use Rattle.machine.specs.Numbers.{specsOf}
 use Rattle.machine.proofs.Numbered.{regular}
 use Rattle.machine.proofs.Rising.{blocks-mono, blocks-at-end}
 use Rattle.border.specs.Edge.{finished}
-use Rattle.bus.specs.World.{Core, World, clearPicture, clearBorder, clearRam, started}
-use Rattle.bus.specs.Time.{Op, tick, colour, paged, poke, load, unpass, showsA, closes, inCore, inEdge, does, worldAfter}
+use Rattle.bus.specs.World.{Core, World}
+use Rattle.bus.specs.Time.{Op, tick, colour, paged, poke, load, unpass, closes, inCore, inEdge, does, worldAfter}
 use Rattle.bus.specs.Turns.{clocksOf, blocksOf, closedBy}
-use Rattle.bus.proofs.Kept.{started-sound}
 use Rattle.bus.proofs.OneStep.{closes-at, edge-closed}
 use Rattle.bus.proofs.Runs.{clocksIn, blocksIn}
-use Rattle.history.specs.Fresh.{Fresh}
-use Rattle.history.specs.Log.{Log, Frame, Shot, sightAt, noted, follow, withSight, shotOf, filmed, film, blank, drawn, Shows, AllShow, Chained, lastAt, blockIn, Rising}
-use Rattle.history.specs.Demand.{paintedTo}
+use Rattle.history.specs.Log.{Log, Frame, Shot, sightAt, noted, follow, withSight, shotOf, filmed, film, Shows, AllShow, Chained, lastAt, blockIn, Rising}
 use Rattle.history.proofs.Time.{Small, Clocked, clocked, count, log-closed, log-goes}
 use Rattle.history.proofs.Seen.{come-is}
 use Rattle.history.proofs.Drawn.{drawn-block, painted-once}
@@ -62,25 +58,6 @@ colours-kept m first (paged v) c l h = h
 colours-kept m first (poke i v) c l h = h
 colours-kept m first (load p s) c l h = h
 colours-kept m first unpass c l h = h
-
-never : false ≡ true → ⊥
-never e = let z : _≡_ {A = ℕ} 0 1 = cc in omega arith
-
-pub picture-size : length clearPicture ≡ 49152
-unfolding clearPicture
-picture-size = length-replicate {A = ℕ} 49152 0
-
-pub border-size : length clearBorder ≡ 76800
-unfolding clearBorder
-border-size = length-replicate {A = ℕ} 76800 0
-
-pub ram-size : (m : ZXMachine) → length (clearRam m) ≡ specsOf m .ram
-unfolding clearRam
-ram-size m = length-replicate {A = ℕ} (specsOf m .ram) 0
-
-border-clear : (i : ℕ) → i < 76800 → getD clearBorder i 0 ≡ 0
-unfolding clearBorder
-border-clear i h = getD-replicate 76800 i 0 0 h
 
 module _ (m : ZXMachine) (first : ℕ) where
   -- the frame that a step closes is shown
@@ -151,64 +128,3 @@ module _ (m : ZXMachine) (first : ℕ) where
       rw (← add-assoc T (clocksOf o) (clocksIn os), ← add-assoc B (blocksOf m o w) (blocksIn m os (does m o w)), ← add-assoc F (count (closedBy m o (w .core))) (closings m os (inCore m o (w .core))))
       (ops-kept os (T + clocksOf o) (B + blocksOf m o w) (F + count (closedBy m o (w .core))) (does m o w) (noted m o (w .core) l) (filmed m o w ss) (small .1)
       (op-kept m first o T B F w l ss (small .0) i))
-
--- A HISTORY MAY BEGIN with any fresh world, and the colour that its beam has is the first.
-module _ (m : ZXMachine) (w : World) (f : Fresh m w) where
-  -- both pictures are clear, so either may be shown
-  clear-either : (t : Bool) → cond t (w .screen .a) (w .screen .b) ≡ clearPicture
-  clear-either true = f .a
-  clear-either false = f .b
-
-  clear-other : (t : Bool) → cond t (w .screen .b) (w .screen .a) ≡ clearPicture
-  clear-other true = f .b
-  clear-other false = f .a
-
-  pub fresh-kept : Inv m (w .edge .colour) 0 0 0 w (blank (w .edge .colour)) []
-  unfolding drawn
-  fresh-kept =
-      record {
-        time = record { frames = refl; inside = f .sound .clock; sum = omega (arith, f .clock) };
-        pictures = record {
-          at-last = f .painted;
-          so-far = f .sound .painted;
-          sum = omega (arith, f .painted);
-          rising = tt;
-          size = omega (arith, f .painted);
-          hidden-is = clear-other (showsA (w .core .phase)) ∙ sym (ap (λ (n : ℕ). drop (8 * n) clearPicture) (f .painted));
-          shown-is = clear-either (showsA (w .core .phase));
-          newest-size = picture-size;
-          older-size = picture-size;
-        };
-        border = record {
-          size = ap length (f .pixels) ∙ border-size;
-          colour-is = refl;
-          end-if = f .sound .atEnd;
-          behind = f .sound .pairs;
-          top = omega arith;
-          filled-is = λ i h. absurd (nothing-painted i h);
-          rest = λ i h g. ap (λ (xs : List ℕ). getD xs i 0) (f .pixels) ∙ border-clear i g;
-        };
-        frames = tt;
-        colours = refl;
-      }
-    where
-      nothing-painted : (i : ℕ) → i < paintedTo (w .edge) → ⊥
-      nothing-painted i = rw (f .unblocked, f .pairs) (λ h. omega arith)
-
--- The world that a start leaves is fresh, and its first colour is 7.
-pub started-fresh : (m : ZXMachine) → Fresh m (started m)
-started-fresh m =
-    record {
-      sound = started-sound m;
-      ram = ram-size m;
-      clock = refl;
-      painted = refl;
-      pairs = refl;
-      unblocked = refl;
-      a = refl;
-      b = refl;
-      pixels = refl;
-    }
-
-pub started-colour : (m : ZXMachine) → started m .edge .colour ≡ 7
-started-colour m = refl

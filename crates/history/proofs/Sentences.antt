@@ -12,6 +12,8 @@ use lib.ListN.{length, getD}
 use Rattle.machine.specs.declared.ZXMachine.{ZXMachine}
 use Rattle.machine.specs.Numbers.{specsOf}
 use Rattle.machine.specs.Timing.{blockPosition}
+use Rattle.machine.proofs.Numbered.{regular}
+use Rattle.machine.proofs.Rising.{blocks-mono}
 use Rattle.record.specs.declared.Held.the-variants as held
 use Rattle.record.specs.Record.{heldBy}
 use Rattle.record.proofs.Soundness.{facts-sound}
@@ -19,20 +21,22 @@ use Rattle.record.proofs.Round.{held-encode}
 use Rattle.paint.proofs.Painting.{paint-out}
 use Rattle.memory.specs.Memory.{ramPage}
 use Rattle.bus.specs.World.{World, busOf, started}
-use Rattle.bus.specs.Time.{Op, tick, colour, paged, poke, load, unpass, Look, lookAt, paintFrom, showsA, shownPicture, hiddenPicture, caughtUp, closes, inCore, inScreen, does, worldAfter}
+use Rattle.bus.specs.Time.{Op, tick, colour, paged, poke, load, unpass, lookAt, showsA, shownPicture, hiddenPicture, caughtUp, closes, inCore, inScreen, does, worldAfter}
 use Rattle.bus.specs.Turns.{closedBy}
 use Rattle.bus.proofs.OneStep.{core-goes, screen-closed, screen-goes, closes-at}
+use Rattle.bus.proofs.Runs.{clocksIn, blocksIn}
 use Rattle.bus.proofs.Closing.{completed, closing-shows}
 use Rattle.contracts.specs.Timed.{Lent, lentBy}
-use Rattle.history.specs.Log.{Shot, Frame, Shows, AllShow}
+use Rattle.history.specs.Log.{Shot, Frame, Shows, AllShow, follow, film}
 use Rattle.history.specs.Calls.{lend, Lens, plain, Call, called, reportedClosed, Typed, AllTyped, EachCall, NoStart, NoSecondStart}
 use Rattle.history.specs.Demand.{callOps, history, bytesAfter}
 use Rattle.history.proofs.Time.{count}
 use Rattle.history.proofs.Pictures.{hidden-caught, shown-caught}
-use Rattle.history.proofs.Operations.{closings}
+use Rattle.history.proofs.Operations.{closings, AllSmall, Inv, ops-kept}
+use Rattle.history.proofs.Ends.{none-closed}
 use Rattle.history.proofs.Whole.{LentWhole}
 use Rattle.history.proofs.Judging.{never-unsound, wait-accepted, wait-refused}
-use Rattle.history.proofs.Tied.{tied}
+use Rattle.history.proofs.Tied.{Tied, tied}
 use Rattle.history.proofs.Demand3.{history-stands, demand3, each-call}
 
 -- ---- each completed frame
@@ -112,27 +116,30 @@ module _ (m : ZXMachine) where
   caught n w true e = rw (screen-closed m n (w .core) (w .screen) e) (refl, refl)
   caught n w false e = rw (screen-goes m n (w .core) (w .screen) e) (refl, refl)
 
-  module _ (n : ℕ) (w : World) where
-    -- A step leaves the picture that is shown as it was, whether it closes the frame or not,
-    pub shown-alone : cond (showsA (w .core .phase)) (does m (tick n) w .screen .a) (does m (tick n) w .screen .b) ≡ shownPicture (w .core) (w .screen)
-    shown-alone =
-        let c = caught n w (closes m n (w .core)) refl in
-        let l = lookAt m (w .core .clock + n) (w .core) in
-        rw (c .0, c .1) (shown-caught (showsA (w .core .phase)) l (w .screen))
+  -- A step leaves the picture that is shown as it was, whether it closes the frame or not,
+  pub shown-alone : (n : ℕ) (w : World)
+      → cond (showsA (w .core .phase)) (does m (tick n) w .screen .a) (does m (tick n) w .screen .b) ≡ shownPicture (w .core) (w .screen)
+  shown-alone n w =
+      let c = caught n w (closes m n (w .core)) refl in
+      let l = lookAt m (w .core .clock + n) (w .core) in
+      rw (c .0, c .1) (shown-caught (showsA (w .core .phase)) l (w .screen))
 
-    -- and of the hidden one it changes only the bytes of the blocks from the painted count up to the position that it reaches.
-    pub others-alone : (i : ℕ) → w .screen .painted ≤ blockPosition (specsOf m) (w .core .clock + n)
-        → (i < 8 * w .screen .painted) ⊎ (8 * blockPosition (specsOf m) (w .core .clock + n) ≤ i)
-        → getD (cond (showsA (w .core .phase)) (does m (tick n) w .screen .b) (does m (tick n) w .screen .a)) i 0
-        ≡ getD (hiddenPicture (w .core) (w .screen)) i 0
-    others-alone i h out =
-        let c = caught n w (closes m n (w .core)) refl in
-        let l = lookAt m (w .core .clock + n) (w .core) in
-        let from = w .screen .painted in
-        let out′ : (i < 8 * from) ⊎ (8 * (from + (l .at - from)) ≤ i) = ⊎-elim (λ (p : i < 8 * from). inl p) (λ (p : 8 * l .at ≤ i). inr (omega arith)) out in
-        rw (c .0, c .1)
-        (ap (λ (xs : List ℕ). getD xs i 0) (hidden-caught (showsA (w .core .phase)) l (w .screen))
-        ∙ paint-out (ramPage (l .page) (l .ram)) (l .flash) from (l .at - from) (hiddenPicture (w .core) (w .screen)) i out′)
+  -- and of the hidden one it leaves byte i as it was, which is of no block from the painted count up to the position that it reaches.
+  abbrev pub Leaves : ℕ → World → ℕ → Type 0
+  Leaves n w i =
+      (i < 8 * w .screen .painted) ⊎ (8 * blockPosition (specsOf m) (w .core .clock + n) ≤ i)
+      → getD (cond (showsA (w .core .phase)) (does m (tick n) w .screen .b) (does m (tick n) w .screen .a)) i 0
+      ≡ getD (hiddenPicture (w .core) (w .screen)) i 0
+
+  leaves-by : (n : ℕ) (w : World) → w .screen .painted ≤ blockPosition (specsOf m) (w .core .clock + n) → (i : ℕ) → Leaves n w i
+  leaves-by n w h i out =
+      let c = caught n w (closes m n (w .core)) refl in
+      let l = lookAt m (w .core .clock + n) (w .core) in
+      let from = w .screen .painted in
+      let out′ : (i < 8 * from) ⊎ (8 * (from + (l .at - from)) ≤ i) = ⊎-elim (λ (p : i < 8 * from). inl p) (λ (p : 8 * l .at ≤ i). inr (omega arith)) out in
+      rw (c .0, c .1)
+      (ap (λ (xs : List ℕ). getD xs i 0) (hidden-caught (showsA (w .core .phase)) l (w .screen))
+      ∙ paint-out (ramPage (l .page) (l .ram)) (l .flash) from (l .at - from) (hiddenPicture (w .core) (w .screen)) i out′)
 
   -- Every other operation leaves both pictures as they were.
   pub pictures-alone : (o : Op) (w : World) → ((n : ℕ) → o ≡ tick n → ⊥) → does m o w .screen ≡ w .screen
@@ -162,17 +169,13 @@ module _ (m : ZXMachine) where
   op-shown (load p bytes) w e = refl
   op-shown unpass w e = refl
 
-  none-closed : (b : Bool) (n : ℕ) → count b + n ≡ 0 → (b ≡ false) × (n ≡ 0)
-  none-closed true n e = absurd (omega arith)
-  none-closed false n e = (refl, omega arith)
-
   -- operations that close no frame leave the shown picture alone
   pub finished-stays : (os : List Op) (w : World) → closings m os (w .core) ≡ 0
       → shownPicture (worldAfter m os w .core) (worldAfter m os w .screen) ≡ shownPicture (w .core) (w .screen)
   unfolding worldAfter closings
   finished-stays [] w e = refl
   finished-stays (o ∷ os) w e =
-      let z = none-closed (closedBy m o (w .core)) (closings m os (inCore m o (w .core))) e in
+      let z = none-closed m (closedBy m o (w .core)) (closings m os (inCore m o (w .core))) e in
       finished-stays os (does m o w) (z .1) ∙ op-shown o w (z .0)
 
   -- The picture just finished, after the whole of a call that closes a frame: what was hidden right before the closing step, with the rest of
@@ -228,12 +231,40 @@ module _ (m : ZXMachine) where
   wall [] w h = absurd (omega arith)
   wall (o ∷ os) w h = wall-by o os w (closedBy m o (w .core)) refl h (wall os (does m o w))
 
-  -- THE SAME OF A CALL OF A HISTORY that says in its answer that it closed a frame.
-  pub wall-of-call : (cs : List Call) → AllTyped cs → NoSecondStart cs (lentBy m (started m)) → (c : Call) → Typed (c .kind)
-      → NoStart (c .kind) (called c (bytesAfter m cs .slices)) → reportedClosed (called c (bytesAfter m cs .slices)) ≡ 1
-      → Wall (callOps m c (history m cs .world .core)) (history m cs .world)
-  wall-of-call cs t first c t′ first′ e =
-      let i = history-stands m cs t first in
-      let w = history m cs .world in
-      let k = tied m w (i .sound) (i .sized) (c .lens) (c .kind) t′ (subst (λ (l : Lent). NoStart (c .kind) (called c l)) (i .slices) first′) in
-      wall (callOps m c (w .core)) w (sym (k .closed) ∙ subst (λ (l : Lent). reportedClosed (called c l) ≡ 1) (i .slices) e)
+-- ---- a call of a history
+
+small-front : (os ps : List Op) → AllSmall (os ++ ps) → AllSmall os
+small-front [] ps h = tt
+small-front (o ∷ os) ps h = (h .0, small-front os ps (h .1))
+
+module _ (m : ZXMachine) (cs : List Call) (typed : AllTyped cs) (first : NoSecondStart cs (lentBy m (started m))) (c : Call) (t : Typed (c .kind))
+    (again : NoStart (c .kind) (called c (bytesAfter m cs .slices))) where
+  here : Tied m (called c (lentBy m (history m cs .world))) (callOps m c (history m cs .world .core)) (history m cs .world)
+  here =
+      let i = history-stands m cs typed first in
+      tied m (history m cs .world) (i .sound) (i .sized) (c .lens) (c .kind) t (subst (λ (l : Lent). NoStart (c .kind) (called c l)) (i .slices) again)
+
+  -- THE WALL of a call that says in its answer that it closed a frame.
+  pub wall-of-call : reportedClosed (called c (bytesAfter m cs .slices)) ≡ 1 → Wall m (callOps m c (history m cs .world .core)) (history m cs .world)
+  wall-of-call e =
+      let i = history-stands m cs typed first in
+      wall m (callOps m c (history m cs .world .core)) (history m cs .world)
+      (sym (here .closed) ∙ subst (λ (l : Lent). reportedClosed (called c l) ≡ 1) (i .slices) e)
+
+  -- All that a history keeps stands at any point within the call too, where the operations `before` are done and `rest` is still to do.
+  pub within-call : (before rest : List Op) → callOps m c (history m cs .world .core) ≡ before ++ rest
+      → Inv m (started m .edge .colour) (bytesAfter m cs .clocks + clocksIn before) (bytesAfter m cs .blocks + blocksIn m before (history m cs .world))
+      (bytesAfter m cs .closed + closings m before (history m cs .world .core)) (worldAfter m before (history m cs .world))
+      (follow m before (history m cs .world .core) (history m cs .log)) (film m before (history m cs .world) (history m cs .stills))
+  within-call before rest parts =
+      ops-kept m (started m .edge .colour) before _ _ _ (history m cs .world) (history m cs .log) (history m cs .stills)
+      (small-front before rest (subst AllSmall parts (here .small))) (history-stands m cs typed first .inv)
+
+  -- "and it changes no other byte of a picture": so each step of the call leaves of the hidden picture what is not of the blocks that it paints.
+  pub others-alone : (before rest : List Op) (n : ℕ) → callOps m c (history m cs .world .core) ≡ before ++ tick n ∷ rest
+      → (i : ℕ) → Leaves m n (worldAfter m before (history m cs .world)) i
+  others-alone before rest n parts =
+      let w = worldAfter m before (history m cs .world) in
+      let p = within-call before (tick n ∷ rest) parts .pictures in
+      leaves-by m n w
+      (omega (arith, p .so-far, blocks-mono (specsOf m) (regular m .wide) (w .core .clock) (w .core .clock + n) (omega arith)))

@@ -210,3 +210,13 @@ AllShow (s ∷ ss) (f ∷ fs) = Shows s f × AllShow ss fs
 abbrev pub Chained : ℕ → Frame → List Frame → Type 0
 Chained first f [] = f .enter ≡ first
 Chained first f (g ∷ gs) = (f .enter ≡ lastColour (g .enter) (g .inks)) × Chained first g gs
+
+-- ---- what memory holds after a call that closed a frame: the newest completed frame, and of the next frame's border nothing
+abbrev pub NewestShows : Shot → List Frame → Type 0
+NewestShows s [] = ⊥
+NewestShows s (f ∷ fs) = Shows s f
+
+pub record Ended (w : World) (fs : List Frame) : Type 0 where
+  pub shows : NewestShows (shotOf w) fs
+  pub unblocked : w .edge .blocked ≡ false
+  pub pairs : w .edge .pairs ≡ 0
