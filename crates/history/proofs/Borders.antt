@@ -21,7 +21,7 @@ use Rattle.border.proofs.Fills.{length-filled, filled-none, filled-out, filled-
 use Rattle.bus.specs.World.{Core}
 use Rattle.bus.specs.Time.{Op, tick, colour, paged, poke, load, unpass, closes, inCore, inEdge}
 use Rattle.bus.proofs.OneStep.{core-closed, core-goes, edge-closed, edge-goes}
-use Rattle.history.specs.Log.{Log, Ink, noted, lastColour, colourAt, borderOf}
+use Rattle.history.specs.Log.{Log, Ink, noted, lastColour, borderColour, borderOf}
 use Rattle.history.specs.Demand.{paintedTo}
 use Rattle.history.proofs.Time.{log-closed, log-goes}
 
@@ -34,14 +34,14 @@ topAt [] = 0
 topAt (w ∷ ws) = w .at
 
 -- past the last write its colour holds
-past-top : (i enter : ℕ) (ws : List Ink) → topAt ws ≤ i → colourAt i enter ws ≡ lastColour enter ws
-unfolding colourAt
+past-top : (i enter : ℕ) (ws : List Ink) → topAt ws ≤ i → borderColour i enter ws ≡ lastColour enter ws
+unfolding borderColour
 past-top i enter [] h = refl
 past-top i enter (w ∷ ws) h = rw (le-leb (w .at) i h)
 
 -- a write further on does not reach back
-before-top : (i enter : ℕ) (w : Ink) (ws : List Ink) → i < w .at → colourAt i enter (w ∷ ws) ≡ colourAt i enter ws
-unfolding colourAt
+before-top : (i enter : ℕ) (w : Ink) (ws : List Ink) → i < w .at → borderColour i enter (w ∷ ws) ≡ borderColour i enter ws
+unfolding borderColour
 before-top i enter w ws h = rw (lt-leb (w .at) i h)
 
 -- frame end stays frame end
@@ -58,7 +58,7 @@ pub record Bordered (m : ZXMachine) (c : Core) (x : Edge) (l : Log) : Type 0 whe
   pub end-if : x .blocked ≡ true → frameEnd (specsOf m) (c .clock) ≡ true
   pub behind : 2 * x .pairs ≤ borderPosition (specsOf m) (c .clock)
   pub top : topAt (l .current .inks) ≤ paintedTo x
-  pub filled-is : (i : ℕ) → i < paintedTo x → getD (x .pixels) i 0 ≡ colourAt i (l .current .enter) (l .current .inks)
+  pub filled-is : (i : ℕ) → i < paintedTo x → getD (x .pixels) i 0 ≡ borderColour i (l .current .enter) (l .current .inks)
   pub rest : (i : ℕ) → paintedTo x ≤ i → i < 76800 → getD (x .pixels) i 0 ≡ borderOf (l .done) i
 
 -- filling on from where this frame's border stands
@@ -66,7 +66,7 @@ module _ (m : ZXMachine) (c : Core) (x : Edge) (l : Log) (p : Bordered m c x l) 
   on : List ℕ
   on = filled (paintedTo x) to (x .colour) (x .pixels)
 
-  on-filled : (i : ℕ) → i < to → getD on i 0 ≡ colourAt i (l .current .enter) (l .current .inks)
+  on-filled : (i : ℕ) → i < to → getD on i 0 ≡ borderColour i (l .current .enter) (l .current .inks)
   unfolding on
   on-filled i q =
       let inside : to ≤ length (x .pixels) = omega (arith, p .size) in

@@ -19,7 +19,7 @@ use Rattle.history.proofs.Time.{Small, count}
 use Rattle.history.proofs.Operations.{AllSmall, closings}
 
 -- no operation is longer than all of them
-op-small : (o : Op) → clocksOf o ≤ 65541 → Small o
+pub op-small : (o : Op) → clocksOf o ≤ 65541 → Small o
 unfolding clocksOf
 op-small (tick n) h = h
 op-small (colour k) h = tt
@@ -39,7 +39,7 @@ module _ (m : ZXMachine) where
   tick-sum n c true e = let k = closes-at m n c e in rw (core-closed m n c e, e) (omega arith)
   tick-sum n c false e = rw (core-goes m n c e, e) (omega arith)
 
-  op-sum : (o : Op) (c : Core) → inCore m o c .clock + specsOf m .frame * count (closedBy m o c) ≡ c .clock + clocksOf o
+  pub op-sum : (o : Op) (c : Core) → inCore m o c .clock + specsOf m .frame * count (closedBy m o c) ≡ c .clock + clocksOf o
   unfolding inCore closedBy clocksOf
   op-sum (tick n) c = tick-sum n c (closes m n c) refl
   op-sum (colour k) c = omega arith

@@ -2,51 +2,58 @@
 -- only in its own place and handed back untouched between calls." `demand3` below says of every such list of calls, on either machine, what
 -- specs/Demand.antt sets out sentence by sentence.
 -- Assumes nothing.
-use Prim.Native.Nat.{ℕ, _+_, _*_}
+use Prim.Native.Nat.{ℕ, _+_, _*_, _≤_}
+use mathlib.Core.Bool.{Bool, true, false, cond}
 use mathlib.Core.List.{List, [], _∷_, _++_}
-use mathlib.Core.Path.{_≡_, refl, sym, _∙_, ap}
+use mathlib.Core.Path.{_≡_, refl, sym, _∙_, ap, subst}
+use native.Mathlib.Omega.{arith}
+use lib.Dec.{eqb}
 use lib.ListN.{length, getD, drop}
 use Rattle.laws.proofs.Cases.{by-lt}
 use Rattle.machine.specs.declared.ZXMachine.{ZXMachine}
-use Rattle.machine.specs.Numbers.{specsOf}
-use Rattle.bus.specs.World.{World, started}
-use Rattle.bus.proofs.Kept.{SoundWorld, started-sound}
+use Rattle.memory.specs.declared.Place.{Place}
+use Rattle.memory.specs.declared.Place.the-variants as place
+use Rattle.memory.specs.declared.Paged.{Paged}
+use Rattle.memory.specs.declared.Paged.the-variants as paging
+use Rattle.memory.specs.Paging.{write7ffd}
+use Rattle.memory.specs.Memory.{placeOf}
+use Rattle.ports.specs.Devices.{devicesOf}
+use Rattle.bus.specs.World.{World}
+use Rattle.bus.specs.Time.{worldAfter}
+use Rattle.bus.specs.Turns.{clocksOf}
+use Rattle.bus.specs.Calls.{repaged}
+use Rattle.bus.specs.Pokes.{poking}
+use Rattle.bus.proofs.Runs.{clocksIn}
+use Rattle.bus.proofs.Kept.{SoundWorld}
 use Rattle.contracts.specs.Timed.{Lent, lentBy}
-use Rattle.history.specs.Log.{drawn, older}
-use Rattle.contracts.specs.Calls.{performed, Typed, lentOf, Sized, Made, buffersAfter, Obeyed, Each, AllTyped, NotStarted, NoSecondStart}
-use Rattle.history.specs.Reports.{Sums, counted, summed, PortTakes}
-use Rattle.history.specs.Demand.{operations, History, goneOn, historyFrom, atStart, history, bytesAfter, paintedTo, Demand3}
-use Rattle.contracts.proofs.Acts.{start-sized}
-use Rattle.history.proofs.Operations.{Inv, ops-kept, start-kept}
+use Rattle.contracts.specs.Plain.{shownTold}
+use Rattle.contracts.specs.Calls.{plain, mreq, noMreq, portIn, portOut, Call, startAgain, timedCall, writeByte, writePaging, resetPassed, loadRam, ask, opsOf, performed, Typed, lentOf, Sized, Made, buffersAfter, Obeyed, Each, AllTyped, NotStarted, NoSecondStart}
+use Rattle.history.specs.Log.{follow, drawn, newest, older, Ended}
+use Rattle.history.specs.Fresh.{Fresh}
+use Rattle.history.specs.Reports.{reportedClosed, Sums, counted, summed, PortTakes}
+use Rattle.history.specs.Demand.{operations, History, goneOn, historyFrom, atStart, history, bytesAfter, lastClosed, Names, paintedTo, Demand3}
+use Rattle.history.proofs.Operations.{closings, AllSmall, Inv, ops-kept}
+use Rattle.history.proofs.Fresh.{fresh-kept, fresh-sized}
+use Rattle.history.proofs.Ends.{LeavesBorder, plain-leaves, address-leaves, short-leaves, read-leaves, write-leaves, call-ended}
+use Rattle.history.proofs.Named.{shown-named}
 use Rattle.history.proofs.Tied.{tied, port-takes}
 
 -- what stands after any calls: the bytes are the history's world, which is sound and has its lengths, and demand 3 is kept
-pub record Standing (m : ZXMachine) (h : History) (s : Sums) : Type 0 where
+pub record Standing (m : ZXMachine) (first : ℕ) (h : History) (s : Sums) : Type 0 where
   pub slices : s .slices ≡ lentBy m (h .world)
   pub sound : SoundWorld m (h .world)
   pub sized : Sized m (h .world)
-  pub inv : Inv m (s .clocks) (s .blocks) (s .closed) (h .world) (h .log) (h .stills)
+  pub inv : Inv m first (s .clocks) (s .blocks) (s .closed) (h .world) (h .log) (h .shots)
 
-module _ (m : ZXMachine) where
-  -- a start
-  start-stands : Standing m (atStart m) (bytesAfter m [])
-  unfolding summed
-  start-stands =
-      record {
-        slices = refl;
-        sound = started-sound m;
-        sized = start-sized m;
-        inv = start-kept m;
-      }
-
+module _ (m : ZXMachine) (first : ℕ) where
   -- one call more
   call-stands : (c : Made) (h : History) (s : Sums) → c .result ≡ performed (c .call) (lentOf (c .lending) (s .slices)) → Typed (c .call)
-      → NotStarted (c .call) (c .result .code) → Standing m h s → Standing m (goneOn m c h) (counted c s)
+      → NotStarted (c .call) (c .result .code) → Standing m first h s → Standing m first (goneOn m c h) (counted c s)
   unfolding goneOn
-  call-stands c h s e typed first i =
+  call-stands c h s e typed again i =
       let e′ : c .result ≡ performed (c .call) (lentOf (c .lending) (lentBy m (h .world))) =
       e ∙ ap (λ (l : Lent). performed (c .call) (lentOf (c .lending) l)) (i .slices) in
-      let k = tied m (h .world) (i .sound) (i .sized) c e′ typed first in
+      let k = tied m (h .world) (i .sound) (i .sized) c e′ typed again in
       let os = operations m c (h .world .core) in
       record {
         slices = ap (buffersAfter c) (i .slices) ∙ k .slices;
@@ -54,65 +61,121 @@ module _ (m : ZXMachine) where
         sized = k .sized;
         inv =
             rw (k .clocks, k .blocks, k .closed)
-            (ops-kept m os (s .clocks) (s .blocks) (s .closed) (h .world) (h .log) (h .stills) (k .small) (i .inv));
+            (ops-kept m first os (s .clocks) (s .blocks) (s .closed) (h .world) (h .log) (h .shots) (k .small) (i .inv));
       }
 
   -- any calls
-  pub calls-stand : (cs : List Made) (h : History) (s : Sums) → Obeyed cs (s .slices) → AllTyped cs → NoSecondStart cs → Standing m h s
-      → Standing m (historyFrom m cs h) (summed cs s)
+  pub calls-stand : (cs : List Made) (h : History) (s : Sums) → Obeyed cs (s .slices) → AllTyped cs → NoSecondStart cs → Standing m first h s
+      → Standing m first (historyFrom m cs h) (summed cs s)
   unfolding historyFrom summed
-  calls-stand [] h s obeyed typed first i = i
-  calls-stand (c ∷ cs) h s obeyed typed first i =
-      calls-stand cs (goneOn m c h) (counted c s) (obeyed .1) (typed .1) (first .1) (call-stands c h s (obeyed .0) (typed .0) (first .0) i)
-
-  pub history-stands : (cs : List Made) → Obeyed cs (lentBy m (started m)) → AllTyped cs → NoSecondStart cs → Standing m (history m cs) (bytesAfter m cs)
-  unfolding summed
-  history-stands cs obeyed typed first = calls-stand cs (atStart m) _ obeyed typed first start-stands
+  calls-stand [] h s obeyed typed again i = i
+  calls-stand (c ∷ cs) h s obeyed typed again i =
+      calls-stand cs (goneOn m c h) (counted c s) (obeyed .1) (typed .1) (again .1) (call-stands c h s (obeyed .0) (typed .0) (again .0) i)
 
   -- what holds of each call on a sound machine of the right lengths holds of each call of a history
-  each-stands : (P : Made → Type 0)
+  pub each-stands : (P : Made → Type 0)
       → ((c : Made) (w : World) → SoundWorld m w → Sized m w → c .result ≡ performed (c .call) (lentOf (c .lending) (lentBy m w)) → Typed (c .call)
       → NotStarted (c .call) (c .result .code) → P c)
-      → (cs : List Made) (h : History) (s : Sums) → Obeyed cs (s .slices) → AllTyped cs → NoSecondStart cs → Standing m h s → Each P cs
-  each-stands P f [] h s obeyed typed first i = tt
-  each-stands P f (c ∷ cs) h s obeyed typed first i = (
-    f c (h .world) (i .sound) (i .sized) (obeyed .0 ∙ ap (λ (l : Lent). performed (c .call) (lentOf (c .lending) l)) (i .slices)) (typed .0) (first .0),
-    each-stands P f cs (goneOn m c h) (counted c s) (obeyed .1) (typed .1) (first .1) (call-stands c h s (obeyed .0) (typed .0) (first .0) i),
+      → (cs : List Made) (h : History) (s : Sums) → Obeyed cs (s .slices) → AllTyped cs → NoSecondStart cs → Standing m first h s → Each P cs
+  each-stands P f [] h s obeyed typed again i = tt
+  each-stands P f (c ∷ cs) h s obeyed typed again i = (
+    f c (h .world) (i .sound) (i .sized) (obeyed .0 ∙ ap (λ (l : Lent). performed (c .call) (lentOf (c .lending) l)) (i .slices)) (typed .0) (again .0),
+    each-stands P f cs (goneOn m c h) (counted c s) (obeyed .1) (typed .1) (again .1) (call-stands c h s (obeyed .0) (typed .0) (again .0) i),
   )
 
-  pub each-call : (P : Made → Type 0)
-      → ((c : Made) (w : World) → SoundWorld m w → Sized m w → c .result ≡ performed (c .call) (lentOf (c .lending) (lentBy m w)) → Typed (c .call)
-      → NotStarted (c .call) (c .result .code) → P c)
-      → (cs : List Made) → Obeyed cs (lentBy m (started m)) → AllTyped cs → NoSecondStart cs → Each P cs
+  -- ---- the end of a call
+
+  -- A call that closes a frame leaves the next one's border alone.
+  poke-few : (p : Place) (value : ℕ) → clocksIn (poking p value) ≤ 64
+  unfolding clocksIn clocksOf
+  poke-few (place.Rom at) value = omega arith
+  poke-few (place.Ram at) value = omega arith
+
+  paged-few : (p : Paged) → clocksIn (repaged p) ≤ 64
+  unfolding clocksIn clocksOf
+  paged-few paging.Absent = omega arith
+  paged-few paging.Locked = omega arith
+  paged-few (paging.Taken u) = omega arith
+
+  leaves : (k : Call) → LeavesBorder m (opsOf m k)
+  unfolding opsOf clocksIn clocksOf
+  leaves (startAgain machine) = short-leaves m (opsOf m (startAgain machine)) (λ c. omega arith)
+  leaves (timedCall (plain n) answer) = plain-leaves m n
+  leaves (timedCall (mreq addr n) answer) = address-leaves m addr n
+  leaves (timedCall (noMreq addr n) answer) = address-leaves m addr n
+  leaves (timedCall (portIn devices port) answer) = read-leaves m port
+  leaves (timedCall (portOut devices port value) answer) = write-leaves m (devicesOf devices) port value
+  leaves (writeByte addr value) = short-leaves m (opsOf m (writeByte addr value)) (λ c. poke-few (placeOf m (c .paging) addr) value)
+  leaves (writePaging value answer) = short-leaves m (opsOf m (writePaging value answer)) (λ c. paged-few (write7ffd m (c .paging) value))
+  leaves resetPassed = short-leaves m (opsOf m resetPassed) (λ c. omega arith)
+  leaves (loadRam bytes page) = short-leaves m (opsOf m (loadRam bytes page)) (λ c. omega arith)
+  leaves (ask q out) = short-leaves m (opsOf m (ask q out)) (λ c. omega arith)
+
+  ends-by : (k : Call) (b : Bool) (h : History) (T B F : ℕ) → Inv m first T B F (h .world) (h .log) (h .shots)
+      → let os = cond b (opsOf m k (h .world .core)) [] in
+      AllSmall os → closings m os (h .world .core) ≡ 1 → Ended (worldAfter m os (h .world)) (follow m os (h .world .core) (h .log) .done)
+  unfolding closings
+  ends-by k true h T B F i small one = call-ended m first T B F (h .world) (h .log) (h .shots) i (opsOf m k) (leaves k) small (omega arith)
+  ends-by k false h T B F i small one = absurd (omega arith)
+
+  call-ends : (c : Made) (h : History) (s : Sums) → c .result ≡ performed (c .call) (lentOf (c .lending) (s .slices)) → Typed (c .call)
+      → NotStarted (c .call) (c .result .code) → Standing m first h s → reportedClosed c ≡ 1 → Ended (goneOn m c h .world) (goneOn m c h .log .done)
+  unfolding goneOn
+  call-ends c h s e typed again i one =
+      let k = tied m (h .world) (i .sound) (i .sized) c (e ∙ ap (λ (l : Lent). performed (c .call) (lentOf (c .lending) l)) (i .slices)) typed again in
+      ends-by (c .call) (eqb (c .result .code) 0) h (s .clocks) (s .blocks) (s .closed) (i .inv) (k .small) (sym (k .closed) ∙ one)
+
+  calls-end : (cs : List Made) (h : History) (s : Sums) → Obeyed cs (s .slices) → AllTyped cs → NoSecondStart cs → Standing m first h s → lastClosed cs ≡ 1
+      → Ended (historyFrom m cs h .world) (historyFrom m cs h .log .done)
+  unfolding historyFrom
+  calls-end [] h s obeyed typed again i one = absurd (omega arith)
+  calls-end (c ∷ []) h s obeyed typed again i one = call-ends c h s (obeyed .0) (typed .0) (again .0) i one
+  calls-end (c ∷ d ∷ cs) h s obeyed typed again i one =
+      calls-end (d ∷ cs) (goneOn m c h) (counted c s) (obeyed .1) (typed .1) (again .1) (call-stands c h s (obeyed .0) (typed .0) (again .0) i) one
+
+-- ---- FROM ANY FRESH WORLD
+module _ (m : ZXMachine) (w : World) (fresh : Fresh m w) where
+  fresh-stands : Standing m (w .edge .colour) (atStart w) (bytesAfter m w [])
   unfolding summed
-  each-call P f cs obeyed typed first = each-stands P f cs (atStart m) (bytesAfter m []) obeyed typed first start-stands
+  fresh-stands = record { slices = refl; sound = fresh .sound; sized = fresh-sized m w fresh; inv = fresh-kept m w fresh }
 
-  -- what stands is what demand 3 says
-  standing-is : (cs : List Made) (h : History) (s : Sums) → Standing m h s → Each (λ c. PortTakes (c .call) c) cs → Demand3 m cs h s
-  standing-is cs h s i ports =
-      let time = i .inv .time in
-      let pictures = i .inv .pictures in
-      let edge = h .world .edge in
-      record {
-        slices = i .slices;
-        closed = time .frames;
-        clocks = time .sum;
-        blocks = pictures .sum ∙ ap (λ (n : ℕ). length (h .log .done) * 6144 + n) (pictures .at-last);
-        frames = i .inv .frames;
-        colours = i .inv .colours;
-        shown = pictures .shown-is;
-        hidden =
-            pictures .hidden-is
-            ∙ ap (λ (n : ℕ). drawn (h .log .current .looks) ++ drop (8 * n) (older (h .log .done))) (pictures .at-last);
-        border = λ pixel p.
-            by-lt (λ (x : ℕ). getD (edge .pixels) pixel 0 ≡ x) pixel (paintedTo edge) (λ q. i .inv .border .filled-is pixel q)
-            (λ q. i .inv .border .rest pixel q p);
-        ports = ports;
-      }
+  module _ (cs : List Made) (obeyed : Obeyed cs (lentBy m w)) (typed : AllTyped cs) (again : NoSecondStart cs) where
+    pub history-stands : Standing m (w .edge .colour) (history m w cs) (bytesAfter m w cs)
+    unfolding summed
+    history-stands = calls-stand m (w .edge .colour) cs (atStart w) _ obeyed typed again fresh-stands
 
--- DEMAND 3, of any calls after a start, on either machine.
-pub demand3 : (m : ZXMachine) (cs : List Made) → Obeyed cs (lentBy m (started m)) → AllTyped cs → NoSecondStart cs
-    → Demand3 m cs (history m cs) (bytesAfter m cs)
-demand3 m cs obeyed typed first =
-    standing-is m cs (history m cs) (bytesAfter m cs) (history-stands m cs obeyed typed first)
-    (each-call m (λ c. PortTakes (c .call) c) (λ c w sound sized e t f. port-takes m w sound sized c e t f) cs obeyed typed first)
+    pub each-call : (P : Made → Type 0)
+        → ((c : Made) (v : World) → SoundWorld m v → Sized m v → c .result ≡ performed (c .call) (lentOf (c .lending) (lentBy m v)) → Typed (c .call)
+        → NotStarted (c .call) (c .result .code) → P c) → Each P cs
+    unfolding summed
+    each-call P f = each-stands m (w .edge .colour) P f cs (atStart w) (bytesAfter m w []) obeyed typed again fresh-stands
+
+    -- DEMAND 3, of any calls on a machine that begins fresh.
+    pub demand3 : Demand3 m w cs (history m w cs) (bytesAfter m w cs)
+    unfolding summed
+    demand3 =
+        let h = history m w cs in
+        let i = history-stands in
+        let time = i .inv .time in
+        let pictures = i .inv .pictures in
+        let edge = h .world .edge in
+        record {
+          slices = i .slices;
+          closed = time .frames;
+          clocks = time .sum;
+          blocks = pictures .sum ∙ ap (λ (n : ℕ). length (h .log .done) * 6144 + n) (pictures .at-last);
+          frames = i .inv .frames;
+          colours = i .inv .colours;
+          ended = calls-end m (w .edge .colour) cs (atStart w) (bytesAfter m w []) obeyed typed again fresh-stands;
+          named = λ answer five.
+              subst (λ (l : Lent). Names (shownTold (l .state) (l .a) (l .b) answer) (l .a ++ l .b) (newest (h .log .done))) (sym (i .slices))
+              (subst (λ (picture : List ℕ). Names (shownTold (lentBy m (h .world) .state) (h .world .screen .a) (h .world .screen .b) answer) (h .world .screen .a ++ h .world .screen .b) picture) (pictures .shown-is) (shown-named m (h .world) (i .sound) (i .sized) answer five));
+          shown = pictures .shown-is;
+          hidden =
+              pictures .hidden-is
+              ∙ ap (λ (n : ℕ). drawn (h .log .current .sights) ++ drop (8 * n) (older (h .log .done))) (pictures .at-last);
+          border = λ pixel p.
+              by-lt (λ (x : ℕ). getD (edge .pixels) pixel 0 ≡ x) pixel (paintedTo edge) (λ q. i .inv .border .filled-is pixel q)
+              (λ q. i .inv .border .rest pixel q p);
+          ports = each-call (λ c. PortTakes (c .call) c) (λ c v sound sized e t f. port-takes m v sound sized c e t f);
+        }

@@ -1,75 +1,75 @@
--- What is drawn, block by block: each by the first catch-up whose position is past it.
+-- What is drawn, block by block: each block once, by the catch-up that reached it.
 -- Assumes nothing.
-use Prim.Native.Nat.{ℕ, zero, suc, _+_, _-_, _*_, _<_}
+use Prim.Native.Nat.{ℕ, zero, suc, _+_, _-_, _*_, _≤_, _<_}
 use mathlib.Core.Bool.{Bool}
 use mathlib.Core.List.{List, [], _∷_, _++_}
-use mathlib.Core.Path.{_≡_, refl, sym, _∙_, ap}
+use mathlib.Core.Path.{_≡_, refl, _∙_, ap}
 use native.Mathlib.Omega.{arith}
-use native.Mathlib.Decide.{decLt}
-use lib.ListN.{length, getD, length-append, List·getD-append}
-use lib.Seq.{getD-append-add}
-use borrow.Author.Tests.{lt-ltb, le-ltb}
+use lib.ListN.{length, take, drop, length-append, length-drop}
+use lib.Seq.{take-all, take-append-le, drop-append-le, drop-append-add, drop-at}
+use borrow.Author.Tests.{lt-ltb, le-ltb, le-leb, lt-leb}
+use Rattle.laws.proofs.Cases.{split}
 use Rattle.paint.specs.Paint.{blockAt, blocks}
-use Rattle.paint.proofs.Painting.{length-blocks}
+use Rattle.paint.proofs.Painting.{eight-pixels, length-blocks}
 use Rattle.memory.specs.Memory.{ramPage}
-use Rattle.bus.specs.Time.{Look}
-use Rattle.history.specs.Log.{Still, Frame, Shows, drawn, drawnBy, lastAt, Rising, reaching, blockBy}
+use Rattle.history.specs.Log.{Sight, lastAt, timesPainted, reaching, blockBy, blockIn, drawn, drawnBy, Rising}
 
--- pixel j of block from + i in a run of blocks
-blocks-at : (page : List ℕ) (flash : Bool) (from n i j : ℕ) → i < n → j < 8
-    → getD (blocks page flash from n) (8 * i + j) 0 ≡ getD (blockAt page flash (from + i)) j 0
+-- a block of what stands in front, and of what stands behind p blocks
+pub in-front : (xs ys : List ℕ) (k : ℕ) → 8 * k + 8 ≤ length xs → blockIn (xs ++ ys) k ≡ blockIn xs k
+in-front xs ys k h =
+    ap (take 8) (drop-append-le (8 * k) xs ys (omega arith))
+    ∙ take-append-le 8 (drop (8 * k) xs) ys (rw (length-drop) (omega arith))
+
+pub in-back : (xs ys : List ℕ) (p k : ℕ) → length xs ≡ 8 * p → p ≤ k → blockIn (xs ++ ys) k ≡ blockIn ys (k - p)
+in-back xs ys p k size h =
+    let e : 8 * k ≡ length xs + 8 * (k - p) = omega arith in
+    ap (λ (n : ℕ). take 8 (drop n (xs ++ ys))) e ∙ ap (take 8) (drop-append-add xs ys (8 * (k - p)))
+
+-- block from + i in a run of blocks
+blocks-in : (page : List ℕ) (flash : Bool) (from n i : ℕ) → i < n → blockIn (blocks page flash from n) i ≡ blockAt page flash (from + i)
 unfolding blocks
-blocks-at page flash from zero i j h g = absurd (omega arith)
-blocks-at page flash from (suc n) i j h g =
+blocks-in page flash from zero i h = absurd (omega arith)
+blocks-in page flash from (suc n) i h =
     let size = length-blocks page flash from n in
-    elim (decLt i n) [
-      | yes p ↦ List·getD-append (blocks page flash from n) (blockAt page flash (from + n)) 0 (8 * i + j) (omega arith) ∙ blocks-at page flash from n i j p g
-      | no q ↦
-          let e : i ≡ n = omega arith in
-          let at : 8 * i + j ≡ length (blocks page flash from n) + j = omega arith in
-          ap (λ (k : ℕ). getD (blocks page flash from n ++ blockAt page flash (from + n)) k 0) at
-          ∙ getD-append-add (blocks page flash from n) (blockAt page flash (from + n)) j 0
-          ∙ ap (λ (k : ℕ). getD (blockAt page flash (from + k)) j 0) (sym e)
-    ]
+    split (suc i) n
+    (λ p. in-front (blocks page flash from n) (blockAt page flash (from + n)) i (omega arith) ∙ blocks-in page flash from n i (omega arith))
+    (λ p. let e : n ≡ i = omega arith in
+    ap (take 8) (drop-at (blocks page flash from n) (blockAt page flash (from + n)) (8 * i) (omega arith))
+    ∙ take-all 8 (blockAt page flash (from + n)) (omega (arith, eight-pixels page flash (from + n)))
+    ∙ ap (λ (k : ℕ). blockAt page flash (from + k)) e)
 
-pub drawn-length : (ls : List Look) → Rising ls → length (drawn ls) ≡ 8 * lastAt ls
+pub drawn-length : (ss : List Sight) → Rising ss → length (drawn ss) ≡ 8 * lastAt ss
 unfolding drawn
 drawn-length [] r = refl
-drawn-length (l ∷ ls) r =
-    rw (length-append (drawn ls) (drawnBy l (lastAt ls)), drawn-length ls (r .1), length-blocks (ramPage (l .page) (l .ram)) (l .flash) (lastAt ls) (l .at - lastAt ls))
+drawn-length (s ∷ ss) r =
+    rw (length-append (drawn ss) (drawnBy s (lastAt ss)), drawn-length ss (r .1), length-blocks (ramPage (s .page) (s .ram)) (s .flash) (lastAt ss) (s .at - lastAt ss))
     (omega (arith, r .0))
 
--- pixel j of block k is that of the catch-up which reached k
-pub drawn-at : (l : Look) (ls : List Look) → Rising (l ∷ ls) → (k j : ℕ) → k < l .at → j < 8
-    → getD (drawn (l ∷ ls)) (8 * k + j) 0 ≡ getD (blockBy (reaching k l ls) k) j 0
+-- block k is as the catch-up which reached it draws it
+pub drawn-block : (ss : List Sight) → Rising ss → (k : ℕ) → k < lastAt ss → blockIn (drawn ss) k ≡ blockBy (reaching k ss) k
 unfolding drawn reaching
-drawn-at l [] r k j h g = blocks-at (ramPage (l .page) (l .ram)) (l .flash) 0 (l .at - 0) k j (omega arith) g ∙ ap (λ (x : ℕ). getD (blockBy l x) j 0) same where
-  same : 0 + k ≡ k
-  same = omega arith
-drawn-at l (f ∷ ls) r k j h g =
-    let size = drawn-length (f ∷ ls) (r .1) in
-    elim (decLt k (f .at)) [
-      | yes p ↦
-          rw (lt-ltb k (f .at) p)
-          (List·getD-append (drawn (f ∷ ls)) (drawnBy l (f .at)) 0 (8 * k + j) (omega arith)
-          ∙ drawn-at f ls (r .1) k j p g)
-      | no q ↦
-          let e₁ : 8 * k + j ≡ length (drawn (f ∷ ls)) + (8 * (k - f .at) + j) = omega arith in
-          let e₂ : f .at + (k - f .at) ≡ k = omega arith in
-          rw (le-ltb k (f .at) (omega arith))
-          (ap (λ (x : ℕ). getD (drawn (f ∷ ls) ++ drawnBy l (f .at)) x 0) e₁
-          ∙ getD-append-add (drawn (f ∷ ls)) (drawnBy l (f .at)) (8 * (k - f .at) + j) 0
-          ∙ blocks-at (ramPage (l .page) (l .ram)) (l .flash) (f .at) (l .at - f .at) (k - f .at) j (omega arith) g
-          ∙ ap (λ (x : ℕ). getD (blockBy l x) j 0) e₂)
-    ]
+drawn-block [] r k h = absurd (omega arith)
+drawn-block (s ∷ ss) r k h =
+    let size = drawn-length ss (r .1) in
+    let page = ramPage (s .page) (s .ram) in
+    split (lastAt ss) k
+    (λ p. let e : lastAt ss + (k - lastAt ss) ≡ k = omega arith in
+    rw (le-leb (lastAt ss) k p, lt-ltb k (s .at) h)
+    (in-back (drawn ss) (drawnBy s (lastAt ss)) (lastAt ss) k size p
+    ∙ blocks-in page (s .flash) (lastAt ss) (s .at - lastAt ss) (k - lastAt ss) (omega arith)
+    ∙ ap (blockBy s) e))
+    (λ p. rw (lt-leb (lastAt ss) k p) (in-front (drawn ss) (drawnBy s (lastAt ss)) k (omega arith) ∙ drawn-block ss (r .1) k p))
 
--- "with the bytes, shown page and flash held when its catch-up reached it": in a completed frame each block k below 6,144 stands in the
--- picture as the first catch-up past k draws it
-pub shows-block : (s : Still) (f : Frame) → Shows s f → (l : Look) (ls : List Look) → f .looks ≡ l ∷ ls → (k j : ℕ) → k < 6144 → j < 8
-    → getD (s .picture) (8 * k + j) 0 ≡ getD (blockBy (reaching k l ls) k) j 0
-shows-block s f h l ls z k j p q =
-    let whole : l .at ≡ 6144 = (rw z at (h .whole)) in
-    let rising : Rising (l ∷ ls) = (rw z at (h .rising)) in
-    ap (λ (x : List ℕ). getD x (8 * k + j) 0) (h .picture)
-    ∙ ap (λ (x : List Look). getD (drawn x) (8 * k + j) 0) z
-    ∙ drawn-at l ls rising k j (omega arith) q
+-- none past the last position is painted, and each before it once
+unpainted : (ss : List Sight) → Rising ss → (k : ℕ) → lastAt ss ≤ k → timesPainted k ss ≡ 0
+unfolding timesPainted
+unpainted [] r k h = refl
+unpainted (s ∷ ss) r k h = rw (le-leb (lastAt ss) k (omega (arith, r .0)), le-ltb k (s .at) h) (omega (arith, unpainted ss (r .1) k (omega (arith, r .0))))
+
+pub painted-once : (ss : List Sight) → Rising ss → (k : ℕ) → k < lastAt ss → timesPainted k ss ≡ 1
+unfolding timesPainted
+painted-once [] r k h = absurd (omega arith)
+painted-once (s ∷ ss) r k h =
+    split (lastAt ss) k
+    (λ p. rw (le-leb (lastAt ss) k p, lt-ltb k (s .at) h) (omega (arith, unpainted ss (r .1) k p)))
+    (λ p. rw (lt-leb (lastAt ss) k p) (omega (arith, painted-once ss (r .1) k p)))

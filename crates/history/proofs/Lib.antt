@@ -1,8 +1,15 @@
 pub mod Time
+pub mod Seen
 pub mod Pictures
 pub mod Borders
 pub mod Drawn
 pub mod Operations
+pub mod Fresh
 pub mod Counts
+pub mod Ends
+pub mod Held
 pub mod Tied
+pub mod Named
+pub mod Good
 pub mod Demand3
+pub mod Sentences

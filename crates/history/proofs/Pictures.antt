@@ -19,15 +19,16 @@ use Rattle.machine.proofs.Rising.{blocks-mono, blocks-at-end}
 use Rattle.paint.proofs.Painting.{paint-splice, length-blocks}
 use Rattle.memory.specs.Memory.{ramPage}
 use Rattle.bus.specs.World.{Core, Screen, World}
-use Rattle.bus.specs.Time.{Op, tick, colour, paged, poke, load, unpass, Look, lookAt, paintFrom, showsA, shownPicture, hiddenPicture, caughtUp, closes, wrapped, inCore, rewound, inScreen}
+use Rattle.bus.specs.Time.{Op, tick, colour, paged, poke, load, unpass, Look, paintFrom, showsA, shownPicture, hiddenPicture, caughtUp, closes, wrapped, inCore, rewound, inScreen}
 use Rattle.bus.specs.Turns.{blocksOf}
-use Rattle.bus.proofs.OneStep.{closes-at, goes-on-at, core-closed, core-goes, screen-closed, screen-goes}
-use Rattle.history.specs.Log.{Log, noted, drawn, drawnBy, lastAt, newest, older, Rising}
+use Rattle.bus.proofs.OneStep.{closes-at, goes-on-at, core-closed, core-goes}
+use Rattle.history.specs.Log.{Log, Sight, sightAt, noted, drawn, drawnBy, lastAt, newest, older, Rising}
 use Rattle.history.proofs.Time.{log-closed, log-goes}
+use Rattle.history.proofs.Seen.{lookOf, come-is, screen-ends, screen-on}
 
 -- painting behind what is drawn already: it grows, and the rest stays
-pub paint-on : (e : Look) (p : ℕ) (front old : List ℕ) → length front ≡ 8 * p → p ≤ e .at → 8 * e .at ≤ length old
-    → paintFrom e p (front ++ drop (8 * p) old) ≡ (front ++ drawnBy e p) ++ drop (8 * e .at) old
+pub paint-on : (e : Sight) (p : ℕ) (front old : List ℕ) → length front ≡ 8 * p → p ≤ e .at → 8 * e .at ≤ length old
+    → paintFrom (lookOf e) p (front ++ drop (8 * p) old) ≡ (front ++ drawnBy e p) ++ drop (8 * e .at) old
 paint-on e p front old size h room =
     let far : 8 * e .at ≡ length front + (8 * e .at - 8 * p) = omega arith in
     let near : 8 * p + (8 * e .at - 8 * p) ≡ 8 * e .at = omega arith in
@@ -73,36 +74,36 @@ module _ (m : ZXMachine) (n : ℕ) (c : Core) (s : Screen) where
 
 -- B blocks so far
 pub record Painted (m : ZXMachine) (B : ℕ) (c : Core) (s : Screen) (l : Log) : Type 0 where
-  pub at-last : s .painted ≡ lastAt (l .current .looks)
+  pub at-last : s .painted ≡ lastAt (l .current .sights)
   pub so-far : s .painted ≤ blockPosition (specsOf m) (c .clock)
   pub sum : B ≡ length (l .done) * 6144 + s .painted
-  pub rising : Rising (l .current .looks)
-  pub size : length (drawn (l .current .looks)) ≡ 8 * s .painted
-  pub hidden-is : hiddenPicture c s ≡ drawn (l .current .looks) ++ drop (8 * s .painted) (older (l .done))
+  pub rising : Rising (l .current .sights)
+  pub size : length (drawn (l .current .sights)) ≡ 8 * s .painted
+  pub hidden-is : hiddenPicture c s ≡ drawn (l .current .sights) ++ drop (8 * s .painted) (older (l .done))
   pub shown-is : shownPicture c s ≡ newest (l .done)
   pub newest-size : length (newest (l .done)) ≡ 49152
   pub older-size : length (older (l .done)) ≡ 49152
 
 -- one catch-up, before anything closes
-module _ (m : ZXMachine) (e : Look) (B : ℕ) (c : Core) (s : Screen) (l : Log) (p : Painted m B c s l) (later : s .painted ≤ e .at) (last : e .at ≤ 6144) where
-  drawn-next : drawn (e ∷ l .current .looks) ≡ drawn (l .current .looks) ++ drawnBy e (s .painted)
+module _ (m : ZXMachine) (e : Sight) (B : ℕ) (c : Core) (s : Screen) (l : Log) (p : Painted m B c s l) (later : s .painted ≤ e .at) (last : e .at ≤ 6144) where
+  drawn-next : drawn (e ∷ l .current .sights) ≡ drawn (l .current .sights) ++ drawnBy e (s .painted)
   unfolding drawn
-  drawn-next = ap (λ (q : ℕ). drawn (l .current .looks) ++ drawnBy e q) (sym (p .at-last))
+  drawn-next = ap (λ (q : ℕ). drawn (l .current .sights) ++ drawnBy e q) (sym (p .at-last))
 
-  drawn-size : length (drawn (e ∷ l .current .looks)) ≡ 8 * e .at
+  drawn-size : length (drawn (e ∷ l .current .sights)) ≡ 8 * e .at
   drawn-size =
-      rw (drawn-next, length-append (drawn (l .current .looks)) (drawnBy e (s .painted)), length-blocks (ramPage (e .page) (e .ram)) (e .flash) (s .painted) (e .at - s .painted))
+      rw (drawn-next, length-append (drawn (l .current .sights)) (drawnBy e (s .painted)), length-blocks (ramPage (e .page) (e .ram)) (e .flash) (s .painted) (e .at - s .painted))
       (omega (arith, later, p .size))
 
-  hidden-next : hiddenPicture c (caughtUp e (showsA (c .phase)) s) ≡ drawn (e ∷ l .current .looks) ++ drop (8 * e .at) (older (l .done))
+  hidden-next : hiddenPicture c (caughtUp (lookOf e) (showsA (c .phase)) s) ≡ drawn (e ∷ l .current .sights) ++ drop (8 * e .at) (older (l .done))
   hidden-next =
-      hidden-caught (showsA (c .phase)) e s
-      ∙ ap (paintFrom e (s .painted)) (p .hidden-is)
-      ∙ paint-on e (s .painted) (drawn (l .current .looks)) (older (l .done)) (p .size) later (omega (arith, p .older-size))
+      hidden-caught (showsA (c .phase)) (lookOf e) s
+      ∙ ap (paintFrom (lookOf e) (s .painted)) (p .hidden-is)
+      ∙ paint-on e (s .painted) (drawn (l .current .sights)) (older (l .done)) (p .size) later (omega (arith, p .older-size))
       ∙ ap (λ (x : List ℕ). x ++ drop (8 * e .at) (older (l .done))) (sym drawn-next)
 
-  shown-next : shownPicture c (caughtUp e (showsA (c .phase)) s) ≡ newest (l .done)
-  shown-next = shown-caught (showsA (c .phase)) e s ∙ p .shown-is
+  shown-next : shownPicture c (caughtUp (lookOf e) (showsA (c .phase)) s) ≡ newest (l .done)
+  shown-next = shown-caught (showsA (c .phase)) (lookOf e) s ∙ p .shown-is
 
 module _ (m : ZXMachine) where
   painted-tick : (n B : ℕ) (c : Core) (s : Screen) (l : Log) → (b : Bool) → closes m n c ≡ b → Painted m B c s l
@@ -111,14 +112,15 @@ module _ (m : ZXMachine) where
   painted-tick n B c s l true z p =
       let g = regular m in
       let k = closes-at m n c z in
-      let e = lookAt m (c .clock + n) c in
+      let e = sightAt m (c .clock + n) c in
+      let at : e .at ≡ blockPosition (specsOf m) (c .clock + n) = come-is m (c .clock + n) in
       let later : s .painted ≤ e .at = omega (arith, p .so-far, blocks-mono (specsOf m) (g .wide) (c .clock) (c .clock + n) (omega arith)) in
-      let last : e .at ≤ 6144 = position-small (specsOf m) (c .clock + n) in
-      let whole : e .at ≡ 6144 = blocks-at-end (specsOf m) g (c .clock + n) (omega arith) in
+      let last : e .at ≤ 6144 = omega (arith, position-small (specsOf m) (c .clock + n)) in
+      let whole : e .at ≡ 6144 = at ∙ blocks-at-end (specsOf m) g (c .clock + n) (omega arith) in
       let size = drawn-size m e B c s l p later last in
       let full : drop (8 * e .at) (older (l .done)) ≡ [] = drop-of-length-le (older (l .done)) {i = 8 * e .at} (omega (arith, p .older-size)) in
-      let caught : Screen = caughtUp e (showsA (c .phase)) s in
-      rw (core-closed m n c z, log-closed m n c l z, screen-closed m n c s z)
+      let caught : Screen = caughtUp (lookOf e) (showsA (c .phase)) s in
+      rw (core-closed m n c z, log-closed m n c l z, screen-ends m n c s z)
       (record {
         at-last = refl;
         so-far = omega arith;
@@ -129,18 +131,19 @@ module _ (m : ZXMachine) where
         shown-is =
             shown-turned m n c (rewound caught)
             ∙ hidden-next m e B c s l p later last
-            ∙ ap (λ (x : List ℕ). drawn (e ∷ l .current .looks) ++ x) full
-            ∙ append-nil (drawn (e ∷ l .current .looks));
+            ∙ ap (λ (x : List ℕ). drawn (e ∷ l .current .sights) ++ x) full
+            ∙ append-nil (drawn (e ∷ l .current .sights));
         newest-size = omega arith;
         older-size = p .newest-size;
       })
   painted-tick n B c s l false z p =
       let g = regular m in
       let k = goes-on-at m n c z in
-      let e = lookAt m (c .clock + n) c in
+      let e = sightAt m (c .clock + n) c in
+      let at : e .at ≡ blockPosition (specsOf m) (c .clock + n) = come-is m (c .clock + n) in
       let later : s .painted ≤ e .at = omega (arith, p .so-far, blocks-mono (specsOf m) (g .wide) (c .clock) (c .clock + n) (omega arith)) in
-      let last : e .at ≤ 6144 = position-small (specsOf m) (c .clock + n) in
-      rw (core-goes m n c z, log-goes m n c l z, screen-goes m n c s z)
+      let last : e .at ≤ 6144 = omega (arith, position-small (specsOf m) (c .clock + n)) in
+      rw (core-goes m n c z, log-goes m n c l z, screen-on m n c s z)
       (record {
         at-last = refl;
         so-far = omega arith;
@@ -154,7 +157,7 @@ module _ (m : ZXMachine) where
       })
 
   -- an operation that takes no time draws nothing
-  resting : (B : ℕ) (c c′ : Core) (s : Screen) (l l′ : Log) → c′ .clock ≡ c .clock → c′ .phase ≡ c .phase → l′ .current .looks ≡ l .current .looks
+  resting : (B : ℕ) (c c′ : Core) (s : Screen) (l l′ : Log) → c′ .clock ≡ c .clock → c′ .phase ≡ c .phase → l′ .current .sights ≡ l .current .sights
       → l′ .done ≡ l .done → Painted m B c s l → Painted m (B + 0) c′ s l′
   resting B c c′ s l l′ t f k d p =
       record {

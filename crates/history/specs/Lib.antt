@@ -1,3 +1,4 @@
 pub mod Log
+pub mod Fresh
 pub mod Reports
 pub mod Demand

@@ -1,19 +1,47 @@
 -- What a frame is made of: its catch-ups, and its border writes. The log reads calls and time rules alone: it is a function of operations and
--- of the core, so that no picture and no painted count can reach it. Newest first throughout.
+-- of the core, so that no picture and no painted count can reach it. What a catch-up sees is spelled out here from document 01, and not by the
+-- definitions that the painter goes by (bus, specs/Time): that the two are one is proved (proofs/Seen.antt). Newest first throughout.
 -- Assumes nothing.
-use Prim.Native.Nat.{ℕ, _+_, _-_, _≤_, _<_}
-use mathlib.Core.Bool.{cond}
+use Prim.Native.Nat.{ℕ, _+_, _-_, _*_, _/_, _%_, _≤_, _<_}
+use mathlib.Core.Bool.{Bool, false, cond, _&&_}
 use mathlib.Core.Path.{_≡_}
 use mathlib.Core.List.{List, [], _∷_, _++_}
 use lib.Dec.{ltb, leb}
-use lib.ListN.{getD}
+use lib.ListN.{getD, take, drop}
 use Rattle.machine.specs.declared.ZXMachine.{ZXMachine}
+use Rattle.machine.specs.declared.ZXMachine.the-variants.{Sinclair48K, Sinclair128K}
 use Rattle.machine.specs.Numbers.{specsOf}
 use Rattle.machine.specs.Timing.{borderPosition}
+use Rattle.machine.specs.Pages.{passed}
 use Rattle.paint.specs.Paint.{blockAt, blocks}
 use Rattle.memory.specs.Memory.{ramPage}
 use Rattle.bus.specs.World.{Core, World, clearPicture}
-use Rattle.bus.specs.Time.{Op, tick, colour, paged, poke, load, unpass, Look, lookAt, closes, inCore, does, shownPicture}
+use Rattle.bus.specs.Time.{Op, tick, colour, paged, poke, load, unpass, closes, inCore, does, shownPicture}
+
+-- what a catch-up sees: how many blocks have come, and "the bytes, shown page and flash held"
+pub record Sight : Type 0 where
+  pub at : ℕ
+  pub ram : List ℕ
+  pub page : ℕ
+  pub flash : Bool
+
+-- how many of the 6,144 blocks have come at a clock: the first at the block origin, 32 on each of 192 lines, 4 clocks apart
+abbrev pub blocksCome : ZXMachine → ℕ → ℕ
+blocksCome m clock = passed 192 32 4 (specsOf m .line) (specsOf m .block) clock
+
+-- "the shown page (page 0 on 48K, 5 or 7 on 128K)", "bit 3 shows page 7": in a byte that bit counts 8
+abbrev pub pageSeen : ZXMachine → ℕ → ℕ
+pageSeen Sinclair48K byte = 0
+pageSeen Sinclair128K byte = 5 + 2 * (byte / 8 % 2)
+
+-- "flash is on in phases 1 to 16"
+abbrev pub flashSeen : ℕ → Bool
+flashSeen phase = ltb 0 phase && ltb phase 17
+
+-- a catch-up at a clock of the frame, by what the core holds then
+abbrev pub sightAt : ZXMachine → ℕ → Core → Sight
+sightAt m clock c =
+    record { at = blocksCome m clock; ram = c .ram; page = pageSeen m (c .paging); flash = flashSeen (c .phase) }
 
 -- a border write: its position, 76,800 at frame end, and its colour
 pub record Ink : Type 0 where
@@ -22,7 +50,7 @@ pub record Ink : Type 0 where
 
 -- a frame: its catch-ups, the colour that the border had as it began, and its border writes
 pub record Frame : Type 0 where
-  pub looks : List Look
+  pub sights : List Sight
   pub enter : ℕ
   pub inks : List Ink
 
@@ -31,12 +59,12 @@ pub record Log : Type 0 where
   pub done : List Frame
 
 -- one catch-up more
-abbrev pub looked : Look → Frame → Frame
-looked l f = record { looks = l ∷ f .looks; enter = f .enter; inks = f .inks }
+abbrev pub withSight : Sight → Frame → Frame
+withSight s f = record { sights = s ∷ f .sights; enter = f .enter; inks = f .inks }
 
 -- one border write more
-abbrev pub inkedWith : Ink → Frame → Frame
-inkedWith i f = record { looks = f .looks; enter = f .enter; inks = i ∷ f .inks }
+abbrev pub withInk : Ink → Frame → Frame
+withInk i f = record { sights = f .sights; enter = f .enter; inks = i ∷ f .inks }
 
 -- the colour last written
 abbrev pub lastColour : ℕ → List Ink → ℕ
@@ -45,20 +73,20 @@ lastColour enter (i ∷ is) = i .colour
 
 -- the next frame begins with it
 abbrev pub opened : Frame → Frame
-opened f = record { looks = []; enter = lastColour (f .enter) (f .inks); inks = [] }
+opened f = record { sights = []; enter = lastColour (f .enter) (f .inks); inks = [] }
 
 -- a step is a catch-up at the clock that it reaches, before anything is subtracted: the last of its frame if it closes it
 abbrev pub frameEnds : ZXMachine → ℕ → Core → Log → Log
-frameEnds m n c l = record { current = opened (l .current); done = looked (lookAt m (c .clock + n) c) (l .current) ∷ l .done }
+frameEnds m n c l = record { current = opened (l .current); done = withSight (sightAt m (c .clock + n) c) (l .current) ∷ l .done }
 
 abbrev pub frameGoesOn : ZXMachine → ℕ → Core → Log → Log
-frameGoesOn m n c l = record { current = looked (lookAt m (c .clock + n) c) (l .current); done = l .done }
+frameGoesOn m n c l = record { current = withSight (sightAt m (c .clock + n) c) (l .current); done = l .done }
 
 -- what an operation adds to the log
 unfoldable pub noted : ZXMachine → Op → Core → Log → Log
 noted m (tick n) c l = cond (closes m n c) (frameEnds m n c l) (frameGoesOn m n c l)
 noted m (colour k) c l =
-    record { current = inkedWith (record { at = borderPosition (specsOf m) (c .clock); colour = k }) (l .current); done = l .done }
+    record { current = withInk (record { at = borderPosition (specsOf m) (c .clock); colour = k }) (l .current); done = l .done }
 noted m (paged v) c l = l
 noted m (poke i v) c l = l
 noted m (load p bytes) c l = l
@@ -68,43 +96,59 @@ unfoldable pub follow : ZXMachine → List Op → Core → Log → Log
 follow m [] c l = l
 follow m (o ∷ os) c l = follow m os (inCore m o c) (noted m o c l)
 
--- "the start's colour being the first": 7
-abbrev pub blank : Log
-blank = record { current = record { looks = []; enter = 7; inks = [] }; done = [] }
+-- "the start's colour being the first"
+abbrev pub blank : ℕ → Log
+blank first = record { current = record { sights = []; enter = first; inks = [] }; done = [] }
 
 -- ---- what a frame's log says of its pixels
 -- the position of the last catch-up, 0 before the first
-abbrev pub lastAt : List Look → ℕ
+abbrev pub lastAt : List Sight → ℕ
 lastAt [] = 0
-lastAt (l ∷ ls) = l .at
+lastAt (s ∷ ss) = s .at
 
--- what a catch-up draws from a block on
-abbrev pub drawnBy : Look → ℕ → List ℕ
-drawnBy l from = blocks (ramPage (l .page) (l .ram)) (l .flash) from (l .at - from)
+-- "the blocks of each catch-up start where the frame's last one ended, the first at 0": whether one that follows those before it paints block k
+abbrev pub paints : ℕ → Sight → List Sight → Bool
+paints k s before = leb (lastAt before) k && ltb k (s .at)
 
--- what the catch-ups draw, in raster order: each starts where the one before ended, the first at 0
-unfoldable pub drawn : List Look → List ℕ
-drawn [] = []
-drawn (l ∷ ls) = drawn ls ++ drawnBy l (lastAt ls)
+-- how many catch-ups of a frame paint block k
+unfoldable pub timesPainted : ℕ → List Sight → ℕ
+timesPainted k [] = 0
+timesPainted k (s ∷ ss) = cond (paints k s ss) 1 0 + timesPainted k ss
 
--- the catch-up that reached block k: the first whose position is past k
-unfoldable pub reaching : ℕ → Look → List Look → Look
-reaching k l [] = l
-reaching k l (l′ ∷ ls) = cond (ltb k (l′ .at)) (reaching k l′ ls) l
+-- the one that reached it; a frame without catch-ups has none
+abbrev pub noSight : Sight
+noSight = record { at = 0; ram = []; page = 0; flash = false }
+
+unfoldable pub reaching : ℕ → List Sight → Sight
+reaching k [] = noSight
+reaching k (s ∷ ss) = cond (paints k s ss) s (reaching k ss)
 
 -- the eight pixels of block k by "the bytes, shown page and flash" of a catch-up
-abbrev pub blockBy : Look → ℕ → List ℕ
-blockBy l k = blockAt (ramPage (l .page) (l .ram)) (l .flash) k
+abbrev pub blockBy : Sight → ℕ → List ℕ
+blockBy s k = blockAt (ramPage (s .page) (s .ram)) (s .flash) k
+
+-- the eight pixels of block k in a picture
+abbrev pub blockIn : List ℕ → ℕ → List ℕ
+blockIn picture k = take 8 (drop (8 * k) picture)
+
+-- what a catch-up draws from a block on
+abbrev pub drawnBy : Sight → ℕ → List ℕ
+drawnBy s from = blocks (ramPage (s .page) (s .ram)) (s .flash) from (s .at - from)
+
+-- what the catch-ups draw, in raster order, one behind the other
+unfoldable pub drawn : List Sight → List ℕ
+drawn [] = []
+drawn (s ∷ ss) = drawn ss ++ drawnBy s (lastAt ss)
 
 -- "the colour last written at or before it": a border write reaches the pixels from its position on
-unfoldable pub colourAt : ℕ → ℕ → List Ink → ℕ
-colourAt pixel enter [] = enter
-colourAt pixel enter (i ∷ is) = cond (leb (i .at) pixel) (i .colour) (colourAt pixel enter is)
+unfoldable pub borderColour : ℕ → ℕ → List Ink → ℕ
+borderColour pixel enter [] = enter
+borderColour pixel enter (i ∷ is) = cond (leb (i .at) pixel) (i .colour) (borderColour pixel enter is)
 
 -- the picture of the newest completed frame, and of the one before; all 0, as the start left them, where there was none
 abbrev pub newest : List Frame → List ℕ
 newest [] = clearPicture
-newest (f ∷ fs) = drawn (f .looks)
+newest (f ∷ fs) = drawn (f .sights)
 
 abbrev pub older : List Frame → List ℕ
 older [] = clearPicture
@@ -113,50 +157,66 @@ older (f ∷ fs) = newest fs
 -- the border of the newest completed frame
 abbrev pub borderOf : List Frame → ℕ → ℕ
 borderOf [] pixel = 0
-borderOf (f ∷ fs) pixel = colourAt pixel (f .enter) (f .inks)
+borderOf (f ∷ fs) pixel = borderColour pixel (f .enter) (f .inks)
 
 -- ---- what memory holds as each frame closes
 -- the picture shown and the border, read from memory as the closing step leaves them
-pub record Still : Type 0 where
+pub record Shot : Type 0 where
   pub picture : List ℕ
   pub border : List ℕ
 
-abbrev pub stillOf : World → Still
-stillOf w = record { picture = shownPicture (w .core) (w .screen); border = w .edge .pixels }
+abbrev pub shotOf : World → Shot
+shotOf w = record { picture = shownPicture (w .core) (w .screen); border = w .edge .pixels }
 
-unfoldable pub filmed : ZXMachine → Op → World → List Still → List Still
-filmed m (tick n) w ss = cond (closes m n (w .core)) (stillOf (does m (tick n) w) ∷ ss) ss
+unfoldable pub filmed : ZXMachine → Op → World → List Shot → List Shot
+filmed m (tick n) w ss = cond (closes m n (w .core)) (shotOf (does m (tick n) w) ∷ ss) ss
 filmed m (colour k) w ss = ss
 filmed m (paged v) w ss = ss
 filmed m (poke i v) w ss = ss
 filmed m (load p bytes) w ss = ss
 filmed m unpass w ss = ss
 
-unfoldable pub film : ZXMachine → List Op → World → List Still → List Still
+unfoldable pub film : ZXMachine → List Op → World → List Shot → List Shot
 film m [] w ss = ss
 film m (o ∷ os) w ss = film m os (does m o w) (filmed m o w ss)
 
 -- ---- the sentences of demand 3 that speak of one frame
 -- each catch-up's position is at or past the one before
-abbrev pub Rising : List Look → Type 0
+abbrev pub Rising : List Sight → Type 0
 Rising [] = Unit {0}
-Rising (l ∷ ls) = (lastAt ls ≤ l .at) × Rising ls
+Rising (s ∷ ss) = (lastAt ss ≤ s .at) × Rising ss
 
 -- "Each completed frame has painted each of its 6,144 blocks once, in raster order, with the bytes, shown page and flash held when its
 -- catch-up reached it; each border pixel has the colour last written at or before it"
-pub record Shows (s : Still) (f : Frame) : Type 0 where
-  pub whole : lastAt (f .looks) ≡ 6144
-  pub rising : Rising (f .looks)
-  pub picture : s .picture ≡ drawn (f .looks)
-  pub border : (pixel : ℕ) → pixel < 76800 → getD (s .border) pixel 0 ≡ colourAt pixel (f .enter) (f .inks)
+pub record Shows (s : Shot) (f : Frame) : Type 0 where
+  -- each block "with the bytes, shown page and flash held when its catch-up reached it"
+  pub blocks : (k : ℕ) → k < 6144 → blockIn (s .picture) k ≡ blockBy (reaching k (f .sights)) k
+  -- "once"
+  pub once : (k : ℕ) → k < 6144 → timesPainted k (f .sights) ≡ 1
+  -- "in raster order", to the last of them
+  pub rising : Rising (f .sights)
+  pub whole : lastAt (f .sights) ≡ 6144
+  -- and the picture is nothing but what was so drawn
+  pub picture : s .picture ≡ drawn (f .sights)
+  pub border : (pixel : ℕ) → pixel < 76800 → getD (s .border) pixel 0 ≡ borderColour pixel (f .enter) (f .inks)
 
-abbrev pub AllShow : List Still → List Frame → Type 0
+abbrev pub AllShow : List Shot → List Frame → Type 0
 AllShow [] [] = Unit {0}
 AllShow [] (f ∷ fs) = ⊥
 AllShow (s ∷ ss) [] = ⊥
 AllShow (s ∷ ss) (f ∷ fs) = Shows s f × AllShow ss fs
 
 -- a frame begins with the colour last written in the frames before it, "the start's colour being the first"
-abbrev pub Chained : Frame → List Frame → Type 0
-Chained f [] = f .enter ≡ 7
-Chained f (g ∷ gs) = (f .enter ≡ lastColour (g .enter) (g .inks)) × Chained g gs
+abbrev pub Chained : ℕ → Frame → List Frame → Type 0
+Chained first f [] = f .enter ≡ first
+Chained first f (g ∷ gs) = (f .enter ≡ lastColour (g .enter) (g .inks)) × Chained first g gs
+
+-- ---- what memory holds after a call that closed a frame: the newest completed frame, and of the next frame's border nothing
+abbrev pub NewestShows : Shot → List Frame → Type 0
+NewestShows s [] = ⊥
+NewestShows s (f ∷ fs) = Shows s f
+
+pub record Ended (w : World) (fs : List Frame) : Type 0 where
+  pub shows : NewestShows (shotOf w) fs
+  pub unblocked : w .edge .blocked ≡ false
+  pub pairs : w .edge .pairs ≡ 0

@@ -12,6 +12,7 @@ use Rattle.contracts.specs.Calls.{Made, Obeyed, NoSecondStart}
 use Rattle.contracts.proofs.Acts.{start-left}
 use Rattle.rustzx.specs.Controller.{new, withRom}
 use Rattle.history.specs.Demand.{history, Demand3}
+use Rattle.history.proofs.Fresh.{started-fresh}
 use Rattle.history.proofs.Demand3.{demand3}
 use Rattle.surface.specs.Chain.{AllSame, OneRom}
 use Rattle.surface.proofs.ChainSame.{from-start}
@@ -32,5 +33,5 @@ both-demands machine before after cs rom begins run first its long =
       rust = s .0 .machine;
       named = s .0 .named;
       demand2 = subst (AllSame rom cs (withRom rom (new (s .0 .machine)))) (b .1) (s .1 cs (subst (Obeyed cs) (sym (b .1)) obeyed) typed first its);
-      demand3 = subst (λ (l : Lent). Demand3 m cs (history m cs) (reportOf cs l)) (sym whole) (demand3 m cs (subst (Obeyed cs) whole obeyed) typed first);
+      demand3 = subst (λ (l : Lent). Demand3 m (started m) cs (history m (started m) cs) (reportOf cs l)) (sym whole) (demand3 m (started m) (started-fresh m) cs (subst (Obeyed cs) whole obeyed) typed first);
     }

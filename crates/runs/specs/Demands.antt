@@ -4,6 +4,7 @@ use Prim.Native.Nat.{ℕ}
 use mathlib.Core.List.{List}
 use mathlib.Core.Path.{_≡_}
 use Rattle.record.specs.Record.{machineNumber, machineOf}
+use Rattle.bus.specs.World.{started}
 use Rattle.contracts.specs.Timed.{Lent}
 use Rattle.contracts.specs.Calls.{Made}
 use Rattle.rustzx.specs.Machine.{ZXMachine}
@@ -25,4 +26,4 @@ pub record Demands (machine : ℕ) (rom : List ℕ) (cs : List Made) (l : Lent) 
   -- and in all that the buffers hold; a refused one leaves everything as it was
   pub demand2 : AllSame rom cs (withRom rom (new rust)) l
   -- DEMAND 3: every picture and every sum
-  pub demand3 : Demand3 (machineOf machine) cs (history (machineOf machine) cs) (reportOf cs l)
+  pub demand3 : Demand3 (machineOf machine) (started (machineOf machine)) cs (history (machineOf machine) (started (machineOf machine)) cs) (reportOf cs l)
