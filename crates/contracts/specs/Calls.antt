@@ -218,6 +218,17 @@ refusedFilled (loadRam bytes page) code = []
 refusedFilled (ask q out) code = refusedReply q out code
 
 -- what the types of the functions' parameters say of a call's numbers
+abbrev pub TypedQuestion : Question → Type 0
+TypedQuestion (byteRead rom addr) = addr < 2 ^ 16
+TypedQuestion pagingRead = Unit {0}
+TypedQuestion interruptAsked = Unit {0}
+TypedQuestion framesAsked = Unit {0}
+TypedQuestion (pageAsked page) = page < 2 ^ 32
+TypedQuestion (blockAsked rom block) = block < 2 ^ 32
+TypedQuestion shownAsked = Unit {0}
+TypedQuestion (stillAsked flash) = flash < 2 ^ 32
+TypedQuestion (help h n) = n < 2 ^ 32
+
 abbrev pub Typed : Call → Type 0
 Typed (startAgain machine) = machine < 2 ^ 32
 Typed (timedCall (plain n) answer) = n < 2 ^ 32
@@ -229,7 +240,7 @@ Typed (writeByte addr value) = (addr < 2 ^ 16) × (value < 2 ^ 8)
 Typed (writePaging value answer) = value < 2 ^ 8
 Typed resetPassed = Unit {0}
 Typed (loadRam bytes page) = page < 2 ^ 32
-Typed (ask q out) = Unit {0}
+Typed (ask q out) = TypedQuestion q
 
 -- ---- what is lent: "our buffers each lent only in its own place and handed back untouched between calls"
 

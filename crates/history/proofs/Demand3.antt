@@ -34,7 +34,7 @@ use Rattle.history.specs.Reports.{reportedClosed, Sums, counted, summed,
 use Rattle.history.specs.Demand.{operations, History, goneOn, historyFrom, atStart, history, bytesAfter, lastClosed, Names, paintedTo, Demand3}
 use Rattle.history.proofs.Operations.{closings, AllSmall, Inv, ops-kept}
 use Rattle.history.proofs.Fresh.{fresh-kept, fresh-sized}
-use Rattle.history.proofs.Ends.{LeavesBorder, plain-leaves, address-leaves, short-leaves, read-leaves, write-leaves, call-ended}
+use Rattle.history.proofs.Ends.{LeavesBorder, plain-leaves, address-leaves, short-leaves, read-leaves, write-leaves, call-ended, done-stays}
 use Rattle.history.proofs.Named.{shown-named}
 use Rattle.history.proofs.Tied.{tied, port-takes}
 
@@ -132,6 +132,22 @@ module _ (m : ZXMachine) (first : ℕ) where
   calls-end (c ∷ []) h s obeyed typed again i one = call-ends c h s (obeyed .0) (typed .0) (again .0) i one
   calls-end (c ∷ d ∷ cs) h s obeyed typed again i one =
       calls-end (d ∷ cs) (goneOn m c h) (counted c s) (obeyed .1) (typed .1) (again .1) (call-stands c h s (obeyed .0) (typed .0) (again .0) i) one
+
+  -- A CALL THAT REPORTS NO CLOSED FRAME completes none, and nor do many.
+  call-open : (c : Made) (h : History) (s : Sums) → c .result ≡ performed (c .call) (lentOf (c .lending) (s .slices)) → Typed (c .call)
+      → NotStarted (c .call) (c .result .code) → Standing m first h s → reportedClosed c ≡ 0 → goneOn m c h .log .done ≡ h .log .done
+  unfolding goneOn
+  call-open c h s e typed again i none =
+      let k = tied m (h .world) (i .sound) (i .sized) c (e ∙ ap (λ (l : Lent). performed (c .call) (lentOf (c .lending) l)) (i .slices)) typed again in
+      done-stays m (operations m c (h .world .core)) (h .world) (h .log) (h .shots) (sym (k .closed) ∙ none) .0
+
+  pub stays-from : (cs : List Made) (h : History) (s : Sums) → Obeyed cs (s .slices) → AllTyped cs → NoSecondStart cs → Standing m first h s
+      → Each (λ c. reportedClosed c ≡ 0) cs → historyFrom m cs h .log .done ≡ h .log .done
+  unfolding historyFrom
+  stays-from [] h s obeyed typed again i none = refl
+  stays-from (c ∷ cs) h s obeyed typed again i none =
+      stays-from cs (goneOn m c h) (counted c s) (obeyed .1) (typed .1) (again .1) (call-stands c h s (obeyed .0) (typed .0) (again .0) i) (none .1)
+      ∙ call-open c h s (obeyed .0) (typed .0) (again .0) i (none .0)
 
 -- ---- FROM ANY FRESH WORLD
 module _ (m : ZXMachine) (w : World) (fresh : Fresh m w) where

@@ -35,10 +35,10 @@ use Rattle.history.specs.Demand.{operations, History, goneOn, historyFro
 use Rattle.history.proofs.Time.{count}
 use Rattle.history.proofs.Pictures.{hidden-caught, shown-caught}
 use Rattle.history.proofs.Operations.{closings, AllSmall, Inv, ops-kept}
-use Rattle.history.proofs.Ends.{none-closed, done-stays}
+use Rattle.history.proofs.Ends.{none-closed}
 use Rattle.history.proofs.Good.{wait-accepted, never-unsound}
 use Rattle.history.proofs.Tied.{Tied, tied}
-use Rattle.history.proofs.Demand3.{history-stands, demand3, each-call}
+use Rattle.history.proofs.Demand3.{stays-from, history-stands, demand3, each-call}
 
 -- ---- each completed frame
 
@@ -251,11 +251,6 @@ module _ (m : ZXMachine) (w : World) (fresh : Fresh m w) (cs : List Made) (obeye
   pub wall-of-call : reportedClosed c ≡ 1 → Wall m (operations m c (world .core)) world
   wall-of-call e = wall m (operations m c (world .core)) world (sym (here .closed) ∙ e)
 
-  -- A CALL THAT CLOSES NO FRAME completes none: what is the newest stays so, in the log and in what the shown picture shows, until the next closing.
-  pub newest-stays : reportedClosed c ≡ 0 → goneOn m c (history m w cs) .log .done ≡ history m w cs .log .done
-  unfolding goneOn
-  newest-stays e = done-stays m (operations m c (world .core)) world (history m w cs .log) (history m w cs .shots) (sym (here .closed) ∙ e) .0
-
   -- All that a history keeps stands at any point within the call too, where the operations `before` are done and `rest` is still to do.
   pub within-call : (before rest : List Op) → operations m c (world .core) ≡ before ++ rest
       → Inv m (w .edge .colour) (bytesAfter m w cs .clocks + clocksIn before) (bytesAfter m w cs .blocks + blocksIn m before world)
@@ -273,3 +268,12 @@ module _ (m : ZXMachine) (w : World) (fresh : Fresh m w) (cs : List Made) (obeye
       let p = within-call before (tick n ∷ rest) parts .pictures in
       leaves-by m n v
       (omega (arith, p .so-far, blocks-mono (specsOf m) (regular m .wide) (v .core .clock) (v .core .clock + n) (omega arith)))
+
+-- AND AFTER ANY LATER CALLS STILL, until the next closing: calls none of which reports a closed frame leave the completed frames what they were, so that by
+-- `demand3` the part that ulb_shown_picture names holds the same picture.
+pub newest-until : (m : ZXMachine) (w : World) → Fresh m w → (cs ds : List Made) → Obeyed cs (lentBy m w) → AllTyped cs → NoSecondStart cs
+    → Obeyed ds (bytesAfter m w cs .slices) → AllTyped ds → NoSecondStart ds → Each (λ c. reportedClosed c ≡ 0) ds
+    → history m w (cs ++ ds) .log .done ≡ history m w cs .log .done
+newest-until m w fresh cs ds obeyed typed again obeyed′ typed′ again′ none =
+    ap (λ (h : History). h .log .done) (history-append m w cs ds)
+    ∙ stays-from m (w .edge .colour) ds (history m w cs) (bytesAfter m w cs) obeyed′ typed′ again′ (history-stands m w fresh cs obeyed typed again) none

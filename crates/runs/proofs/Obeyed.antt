@@ -1,17 +1,36 @@
 -- EACH STEP OF A RUN IS ITS DEFINITION: whatever number and whatever exit the contract of a function admits, they are those of the call's definition; and the
 -- call's numbers are in the ranges of the function's own types.
 -- Assumes nothing.
-use Prim.Native.Nat.{ℕ}
+use Prim.Native.Nat.{ℕ, _<_, _^_}
 use mathlib.Core.List.{List, [], _∷_}
 use mathlib.Core.Path.{_≡_, refl, sym, _∙_, ap}
 use contract.Lifetimes.{Lfts}
 use Rattle.contracts.specs.Timed.{Lent, lent, Outcome, outcome, start}
 use Rattle.contracts.specs.Plain.{told, Changed, Repaged}
-use Rattle.contracts.specs.Calls.{plain, mreq, noMreq, portIn, portOut, Helper, lineAddr, lineOf, columnOf, attrRowOf, attrColumnOf, colorOf, Question, byteRead, pagingRead, interruptAsked, framesAsked, pageAsked, blockAsked, shownAsked, stillAsked, help, Call, startAgain, timedCall, writeByte, writePaging, resetPassed, loadRam, ask, Result, result, withRam, withState, waited, helpedBy, replied, performed, Typed, lentOf, Made, buffersAfter, Obeyed, AllTyped}
+use Rattle.contracts.specs.Calls.{plain, mreq, noMreq, portIn, portOut, Helper, lineAddr, lineOf, columnOf, attrRowOf, attrColumnOf, colorOf, Question, byteRead, pagingRead, interruptAsked, framesAsked, pageAsked, blockAsked, shownAsked, stillAsked, help, Call, startAgain, timedCall, writeByte, writePaging, resetPassed, loadRam, ask, Result, result, withRam, withState, waited, helpedBy, replied, performed, TypedQuestion, Typed, lentOf, Made, buffersAfter, Obeyed, AllTyped}
 use Rattle.contracts.specs.Helpers.{helperCall}
 use Rattle.runs.specs.Run.{Slice, slice, Where, HelperAdmits, Replies, Steps, Run, Begins}
 
 -- ---- the ranges of a call's numbers
+help-range : (h : Helper) (κs : Lfts 1) (n : ℕ) (answer : Slice) (code : ℕ) (answer′ : Slice) → HelperAdmits h κs n answer code answer′ → n < 2 ^ 32
+help-range lineAddr κs n answer code answer′ s = s .0 .0 .1
+help-range lineOf κs n answer code answer′ s = s .0 .0 .1
+help-range columnOf κs n answer code answer′ s = s .0 .0 .1
+help-range attrRowOf κs n answer code answer′ s = s .0 .0 .1
+help-range attrColumnOf κs n answer code answer′ s = s .0 .0 .1
+help-range colorOf κs n answer code answer′ s = s .0 .0 .1
+
+ask-range : (q : Question) (at : ℕ → Where) (l : Lent) (out : List ℕ) (code : ℕ) (filled : List ℕ) → Replies q at l out code filled → TypedQuestion q
+ask-range (byteRead rom addr) at l out code filled s = s .1 .0 .1 .1 .1 .0 .1
+ask-range pagingRead at l out code filled s = tt
+ask-range interruptAsked at l out code filled s = tt
+ask-range framesAsked at l out code filled s = tt
+ask-range (pageAsked page) at l out code filled s = s .1 .0 .1 .1 .0 .1
+ask-range (blockAsked rom block) at l out code filled s = s .1 .0 .1 .1 .1 .0 .1
+ask-range shownAsked at l out code filled s = tt
+ask-range (stillAsked flash) at l out code filled s = s .1 .0 .1 .1 .1 .0 .1
+ask-range (help h n) at l out code filled s = help-range h (s .0) n (slice at 0 out) code (slice at 0 filled) (s .1)
+
 in-range : (k : Call) (at : ℕ → Where) (l : Lent) (r : Result) → Steps k at l r → Typed k
 in-range (startAgain machine) at l r s = s .1 .0 .1 .1 .1 .1 .1 .0 .1
 in-range (timedCall (plain n) answer) at l r s = s .1 .0 .1 .1 .1 .1 .1 .0 .1
@@ -23,7 +42,7 @@ in-range (writeByte addr value) at l r s = (s .1 .0 .1 .1 .0 .1, s .1 .0 .1 .1 .
 in-range (writePaging value answer) at l r s = s .1 .0 .1 .0 .1
 in-range resetPassed at l r s = tt
 in-range (loadRam bytes page) at l r s = s .1 .0 .1 .1 .1 .0 .1
-in-range (ask q out) at l r s = tt
+in-range (ask q out) at l r s = ask-range q at l out (r .code) (r .filled) (s .0)
 
 -- ---- what is returned and left
 helper-is : (h : Helper) (κs : Lfts 1) (n : ℕ) (answer : Slice) (code : ℕ) (answer′ : Slice) → HelperAdmits h κs n answer code answer′
