@@ -93,7 +93,7 @@ module _ (m : ZXMachine) where
   unfolding finished
   closed-begins n c e z = rw (edge-closed m n c e z) (refl, refl)
 
-  op-closes : (o : Op) (c : Core) (e : Edge) → closedBy m o c ≡ true → Unbegun (inEdge m o c e)
+  pub op-closes : (o : Op) (c : Core) (e : Edge) → closedBy m o c ≡ true → Unbegun (inEdge m o c e)
   unfolding closedBy
   op-closes (tick n) c e z = closed-begins n c e z
   op-closes (colour k) c e z = absurd (false≢true z)
