@@ -8,7 +8,9 @@ use mathlib.Core.Logic.{_⊎_, ⊎-elim, inl, inr}
 use mathlib.Core.Path.{_≡_, refl, sym, _∙_, ap, subst}
 use native.Mathlib.Omega.{arith}
 use native.Mathlib.Nat.{mul-add-div-right, div-eq-of-lt, add-zero}
+use lib.Dec.{eqb}
 use lib.ListN.{length, getD}
+use Rattle.laws.proofs.Cases.{by-bool}
 use Rattle.machine.specs.declared.ZXMachine.{ZXMachine}
 use Rattle.machine.specs.Numbers.{specsOf}
 use Rattle.machine.specs.Timing.{blockPosition}
@@ -19,21 +21,29 @@ use Rattle.record.specs.Record.{heldBy}
 use Rattle.record.proofs.Soundness.{facts-sound}
 use Rattle.record.proofs.Round.{held-encode}
 use Rattle.paint.proofs.Painting.{paint-out}
-use Rattle.memory.specs.Memory.{ramPage}
+use Rattle.memory.specs.declared.Paged.{Paged}
+use Rattle.memory.specs.declared.Paged.the-variants as paging
+use Rattle.memory.specs.declared.Place.{Place}
+use Rattle.memory.specs.declared.Place.the-variants.{Rom, Ram}
+use Rattle.memory.specs.Paging.{write7ffd}
+use Rattle.memory.specs.Memory.{ramPage, placeOf}
+use Rattle.ports.specs.Devices.{devicesOf}
 use Rattle.bus.specs.World.{World, busOf, started}
 use Rattle.bus.specs.Time.{Op, tick, colour, paged, poke, load, unpass, lookAt, showsA, shownPicture, hiddenPicture, caughtUp, closes, inCore, inScreen, does, worldAfter}
-use Rattle.bus.specs.Turns.{closedBy}
+use Rattle.bus.specs.Turns.{clocksOf, closedBy}
+use Rattle.bus.specs.Pokes.{poking, byteWrite, pageLoad, passedReset}
+use Rattle.bus.specs.Calls.{repaged, pagingWrite}
 use Rattle.bus.proofs.OneStep.{core-goes, screen-closed, screen-goes, closes-at}
 use Rattle.bus.proofs.Runs.{clocksIn, blocksIn}
 use Rattle.bus.proofs.Closing.{completed, closing-shows}
 use Rattle.contracts.specs.Timed.{Lent, lentBy}
-use Rattle.history.specs.Log.{Shot, Frame, Shows, AllShow, follow, film}
-use Rattle.history.specs.Calls.{lend, Lens, plain, Call, called, reportedClosed, Typed, AllTyped, EachCall, NoStart, NoSecondStart}
-use Rattle.history.specs.Demand.{callOps, history, bytesAfter}
+use Rattle.history.specs.Log.{Shot, Frame, Shows, AllShow, Ended, follow, film}
+use Rattle.history.specs.Calls.{lend, Lens, Kind, startAgain, plain, mreq, noMreq, portIn, portOut, readByte, writeByte, writePaging, readPaging, askInterrupt, askFrames, resetPassed, loadRam, askPage, askBlock, askShown, still, helpLineAddr, helpLine, helpColumn, helpAttrRow, helpAttrColumn, helpColor, Call, called, reportedClosed, Typed, AllTyped, EachCall, NoStart, NoSecondStart}
+use Rattle.history.specs.Demand.{opsOf, blind, callOps, tell, history, bytesAfter}
 use Rattle.history.proofs.Time.{count}
 use Rattle.history.proofs.Pictures.{hidden-caught, shown-caught}
 use Rattle.history.proofs.Operations.{closings, AllSmall, Inv, ops-kept}
-use Rattle.history.proofs.Ends.{none-closed}
+use Rattle.history.proofs.Ends.{none-closed, Unbegun, LeavesBorder, plain-leaves, address-leaves, short-leaves, read-leaves, write-leaves, call-ended}
 use Rattle.history.proofs.Whole.{LentWhole}
 use Rattle.history.proofs.Judging.{never-unsound, wait-accepted, wait-refused}
 use Rattle.history.proofs.Tied.{Tied, tied}
@@ -233,6 +243,55 @@ module _ (m : ZXMachine) where
 
 -- ---- a call of a history
 
+-- whichever call closes a frame leaves the next frame's border alone
+module _ (m : ZXMachine) where
+  poking-short : (p : Place) (v : ℕ) → clocksIn (poking p v) ≤ 64
+  unfolding clocksIn clocksOf
+  poking-short (Rom at) v = omega arith
+  poking-short (Ram at) v = omega arith
+
+  repaged-short : (p : Paged) → clocksIn (repaged p) ≤ 64
+  unfolding clocksIn clocksOf
+  repaged-short paging.Absent = omega arith
+  repaged-short paging.Locked = omega arith
+  repaged-short (paging.Taken v) = omega arith
+
+  idle : LeavesBorder m (λ c. [])
+  unfolding clocksIn
+  idle = short-leaves m (λ c. []) (λ c. omega arith)
+
+  ops-leave : (k : Kind) → LeavesBorder m (opsOf m k)
+  unfolding opsOf clocksIn clocksOf
+  ops-leave (plain n answer) = plain-leaves m n
+  ops-leave (mreq addr n answer) = address-leaves m addr n
+  ops-leave (noMreq addr n answer) = address-leaves m addr n
+  ops-leave (portIn devices port answer) = read-leaves m port
+  ops-leave (portOut devices port value answer) = write-leaves m (devicesOf devices) port value
+  ops-leave (writeByte addr value) = short-leaves m (byteWrite m addr value) (λ c. poking-short (placeOf m (c .paging) addr) value)
+  ops-leave (writePaging value answer) = short-leaves m (pagingWrite m value) (λ c. repaged-short (write7ffd m (c .paging) value))
+  ops-leave resetPassed = short-leaves m passedReset (λ c. omega arith)
+  ops-leave (loadRam bytes page) = short-leaves m (pageLoad page bytes) (λ c. omega arith)
+  ops-leave (startAgain machine) = idle
+  ops-leave (readByte rom addr answer) = idle
+  ops-leave (readPaging answer) = idle
+  ops-leave (askInterrupt answer) = idle
+  ops-leave (askFrames answer) = idle
+  ops-leave (askPage page answer) = idle
+  ops-leave (askBlock rom block answer) = idle
+  ops-leave (askShown answer) = idle
+  ops-leave (still picture flash) = idle
+  ops-leave (helpLineAddr n answer) = idle
+  ops-leave (helpLine n answer) = idle
+  ops-leave (helpColumn n answer) = idle
+  ops-leave (helpAttrRow n answer) = idle
+  ops-leave (helpAttrColumn n answer) = idle
+  ops-leave (helpColor n answer) = idle
+
+  call-leaves : (c : Call) → LeavesBorder m (callOps m c)
+  call-leaves c w h =
+      by-bool (λ (os : List Op). 0 < closings m os (w .core) → Unbegun (worldAfter m os w .edge))
+      (eqb (called c (lentBy m (blind (w .core))) .code) 0) (λ _. ops-leave (c .kind) w h) (λ _. idle w h)
+
 small-front : (os ps : List Op) → AllSmall (os ++ ps) → AllSmall os
 small-front [] ps h = tt
 small-front (o ∷ os) ps h = (h .0, small-front os ps (h .1))
@@ -250,6 +309,17 @@ module _ (m : ZXMachine) (cs : List Call) (typed : AllTyped cs) (first : NoSecon
       let i = history-stands m cs typed first in
       wall m (callOps m c (history m cs .world .core)) (history m cs .world)
       (sym (here .closed) ∙ subst (λ (l : Lent). reportedClosed (called c l) ≡ 1) (i .slices) e)
+
+  -- AND MEMORY THEN SHOWS THAT FRAME WHOLE, picture and border, in the world and the log that the call leaves.
+  pub ended-of-call : reportedClosed (called c (bytesAfter m cs .slices)) ≡ 1
+      → Ended (tell m c (history m cs) .world) (tell m c (history m cs) .log .done)
+  unfolding tell
+  ended-of-call e =
+      let i = history-stands m cs typed first in
+      let one : closings m (callOps m c (history m cs .world .core)) (history m cs .world .core) ≡ 1 =
+      sym (here .closed) ∙ subst (λ (l : Lent). reportedClosed (called c l) ≡ 1) (i .slices) e in
+      call-ended m (started m .edge .colour) _ _ _ (history m cs .world) (history m cs .log) (history m cs .stills) (i .inv) (callOps m c) (call-leaves m c)
+      (here .small) (omega arith)
 
   -- All that a history keeps stands at any point within the call too, where the operations `before` are done and `rest` is still to do.
   pub within-call : (before rest : List Op) → callOps m c (history m cs .world .core) ≡ before ++ rest
