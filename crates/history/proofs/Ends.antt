@@ -31,6 +31,10 @@ use Rattle.history.proofs.Counts.{op-small, op-sum}
 
 -- ---- the log taken apart
 
+pub none-closed : (b : Bool) (n : ℕ) → count b + n ≡ 0 → (b ≡ false) × (n ≡ 0)
+none-closed true n e = absurd (omega arith)
+none-closed false n e = (refl, omega arith)
+
 module _ (m : ZXMachine) where
   -- The log of some operations and then others goes on from the log of the first, and so do the shots.
   pub follow-append : (os ps : List Op) (c : Core) (l : Log) → follow m (os ++ ps) c l ≡ follow m ps (coreAfter m os c) (follow m os c l)
@@ -63,10 +67,6 @@ module _ (m : ZXMachine) where
   op-open (poke i v) w l ss e = (refl, refl)
   op-open (load p bytes) w l ss e = (refl, refl)
   op-open unpass w l ss e = (refl, refl)
-
-  pub none-closed : (b : Bool) (n : ℕ) → count b + n ≡ 0 → (b ≡ false) × (n ≡ 0)
-  none-closed true n e = absurd (omega arith)
-  none-closed false n e = (refl, omega arith)
 
   pub done-stays : (os : List Op) (w : World) (l : Log) (ss : List Shot) → closings m os (w .core) ≡ 0
       → (follow m os (w .core) l .done ≡ l .done) × (film m os w ss ≡ ss)
