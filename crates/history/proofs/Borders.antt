@@ -21,8 +21,9 @@ use Rattle.border.proofs.Fills.{length-filled, filled-none, filled-out, filled-
 use Rattle.bus.specs.World.{Core}
 use Rattle.bus.specs.Time.{Op, tick, colour, paged, poke, load, unpass, closes, inCore, inEdge}
 use Rattle.bus.proofs.OneStep.{core-closed, core-goes, edge-closed, edge-goes}
-use Rattle.history.specs.Log.{Log, Ink, noted, lastColour, borderColour, borderOf}
+use Rattle.history.specs.Log.{Log, Ink, pixelsCome, noted, lastColour, borderColour, borderOf}
 use Rattle.history.specs.Demand.{paintedTo}
+use Rattle.history.proofs.Seen.{pixels-are}
 use Rattle.history.proofs.Time.{log-closed, log-goes}
 
 never : false ≡ true → ⊥
@@ -146,6 +147,7 @@ module _ (m : ZXMachine) where
         → e .pixels ≡ filled (paintedTo x) q (x .colour) (x .pixels) → Wrote k c l e
     unfolding Wrote inCore noted on
     wrote q at h e ec eb ep et ex =
+        let come = pixels-are m (c .clock) in
         let t : q ≤ 76800 = omega (arith, border-small (specsOf m) (c .clock)) in
         record {
           size = ap length ex ∙ on-size m c x l p q h t;
@@ -155,7 +157,7 @@ module _ (m : ZXMachine) where
           top = omega arith;
           filled-is = λ i j. let j′ : i < q = omega arith in
               ap (λ (xs : List ℕ). getD xs i 0) ex ∙ on-filled m c x l p q h t i j′
-              ∙ sym (before-top i (l .current .enter) (record { at = borderPosition (specsOf m) (c .clock); colour = k }) (l .current .inks) (omega arith));
+              ∙ sym (before-top i (l .current .enter) (record { at = pixelsCome m (c .clock); colour = k }) (l .current .inks) (omega arith));
           rest = λ i j g. let j′ : q ≤ i = omega arith in ap (λ (xs : List ℕ). getD xs i 0) ex ∙ on-rest m c x l p q h t i j′ g;
         }
 

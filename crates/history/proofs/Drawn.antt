@@ -41,9 +41,7 @@ blocks-in page flash from (suc n) i h =
 pub drawn-length : (ss : List Sight) → Rising ss → length (drawn ss) ≡ 8 * lastAt ss
 unfolding drawn
 drawn-length [] r = refl
-drawn-length (s ∷ ss) r =
-    rw (length-append (drawn ss) (drawnBy s (lastAt ss)), drawn-length ss (r .1), length-blocks (ramPage (s .page) (s .ram)) (s .flash) (lastAt ss) (s .at - lastAt ss))
-    (omega (arith, r .0))
+drawn-length (s ∷ ss) r = rw (length-append, length-blocks, drawn-length ss (r .1)) (omega (arith, r .0))
 
 -- block k is as the catch-up which reached it draws it
 pub drawn-block : (ss : List Sight) → Rising ss → (k : ℕ) → k < lastAt ss → blockIn (drawn ss) k ≡ blockBy (reaching k ss) k

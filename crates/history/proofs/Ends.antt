@@ -31,6 +31,10 @@ use Rattle.history.proofs.Counts.{op-small, op-sum}
 
 -- ---- the log taken apart
 
+pub none-closed : (b : Bool) (n : ℕ) → count b + n ≡ 0 → (b ≡ false) × (n ≡ 0)
+none-closed true n e = absurd (omega arith)
+none-closed false n e = (refl, omega arith)
+
 module _ (m : ZXMachine) where
   -- The log of some operations and then others goes on from the log of the first, and so do the shots.
   pub follow-append : (os ps : List Op) (c : Core) (l : Log) → follow m (os ++ ps) c l ≡ follow m ps (coreAfter m os c) (follow m os c l)
@@ -64,10 +68,6 @@ module _ (m : ZXMachine) where
   op-open (load p bytes) w l ss e = (refl, refl)
   op-open unpass w l ss e = (refl, refl)
 
-  pub none-closed : (b : Bool) (n : ℕ) → count b + n ≡ 0 → (b ≡ false) × (n ≡ 0)
-  none-closed true n e = absurd (omega arith)
-  none-closed false n e = (refl, omega arith)
-
   pub done-stays : (os : List Op) (w : World) (l : Log) (ss : List Shot) → closings m os (w .core) ≡ 0
       → (follow m os (w .core) l .done ≡ l .done) × (film m os w ss ≡ ss)
   unfolding closings follow film
@@ -93,7 +93,7 @@ module _ (m : ZXMachine) where
   unfolding finished
   closed-begins n c e z = rw (edge-closed m n c e z) (refl, refl)
 
-  op-closes : (o : Op) (c : Core) (e : Edge) → closedBy m o c ≡ true → Unbegun (inEdge m o c e)
+  pub op-closes : (o : Op) (c : Core) (e : Edge) → closedBy m o c ≡ true → Unbegun (inEdge m o c e)
   unfolding closedBy
   op-closes (tick n) c e z = closed-begins n c e z
   op-closes (colour k) c e z = absurd (false≢true z)

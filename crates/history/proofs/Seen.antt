@@ -11,18 +11,22 @@ use Rattle.laws.proofs.Cases.{split}
 use Rattle.machine.specs.declared.ZXMachine.{ZXMachine}
 use Rattle.machine.specs.declared.ZXMachine.the-variants.{Sinclair48K, Sinclair128K}
 use Rattle.machine.specs.Numbers.{specsOf}
-use Rattle.machine.specs.Timing.{blockPosition}
+use Rattle.machine.specs.Timing.{blockPosition, borderPosition}
 use Rattle.machine.proofs.Numbered.{regular}
-use Rattle.machine.proofs.Agree.{blocks-are}
+use Rattle.machine.proofs.Agree.{blocks-are, pairs-are}
 use Rattle.memory.specs.Paging.{shownPage}
 use Rattle.bus.specs.World.{Core, Screen}
 use Rattle.bus.specs.Time.{Look, tick, flashOn, lookAt, showsA, caughtUp, closes, rewound, inScreen}
 use Rattle.bus.proofs.OneStep.{screen-closed, screen-goes}
-use Rattle.history.specs.Log.{Sight, blocksCome, pageSeen, flashSeen, sightAt}
+use Rattle.history.specs.Log.{Sight, blocksCome, pixelsCome, pageSeen, flashSeen, sightAt}
 
 -- The blocks that have come are the position that a catch-up reaches.
 pub come-is : (m : ZXMachine) (clock : ℕ) → blocksCome m clock ≡ blockPosition (specsOf m) clock
 come-is m clock = blocks-are (specsOf m) clock (regular m .wide)
+
+-- And so are the border's pixels, where a border write goes.
+pub pixels-are : (m : ZXMachine) (clock : ℕ) → pixelsCome m clock ≡ borderPosition (specsOf m) clock
+pixels-are m clock = pairs-are (specsOf m) clock (regular m .wide)
 
 page-is : (m : ZXMachine) (byte : ℕ) → pageSeen m byte ≡ shownPage m byte
 page-is Sinclair48K byte = refl

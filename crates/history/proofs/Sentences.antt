@@ -166,7 +166,7 @@ module _ (m : ZXMachine) where
   unfolding worldAfter closings
   finished-stays [] w e = refl
   finished-stays (o ∷ os) w e =
-      let z = none-closed m (closedBy m o (w .core)) (closings m os (inCore m o (w .core))) e in
+      let z = none-closed (closedBy m o (w .core)) (closings m os (inCore m o (w .core))) e in
       finished-stays os (does m o w) (z .1) ∙ op-shown o w (z .0)
 
   -- The picture just finished, after the whole of a call that closes a frame: what was hidden right before the closing step, with the rest of

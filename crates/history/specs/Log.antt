@@ -11,7 +11,6 @@ use lib.ListN.{getD, take, drop}
 use Rattle.machine.specs.declared.ZXMachine.{ZXMachine}
 use Rattle.machine.specs.declared.ZXMachine.the-variants.{Sinclair48K, Sinclair128K}
 use Rattle.machine.specs.Numbers.{specsOf}
-use Rattle.machine.specs.Timing.{borderPosition}
 use Rattle.machine.specs.Pages.{passed}
 use Rattle.paint.specs.Paint.{blockAt, blocks}
 use Rattle.memory.specs.Memory.{ramPage}
@@ -43,7 +42,11 @@ abbrev pub sightAt : ZXMachine → ℕ → Core → Sight
 sightAt m clock c =
     record { at = blocksCome m clock; ram = c .ram; page = pageSeen m (c .paging); flash = flashSeen (c .phase) }
 
--- a border write: its position, 76,800 at frame end, and its colour
+-- how many of the border's 76,800 pixels have come at a clock: two at the border origin, 160 pairs on each of 240 lines, a clock apart
+abbrev pub pixelsCome : ZXMachine → ℕ → ℕ
+pixelsCome m clock = 2 * passed 240 160 1 (specsOf m .line) (specsOf m .border) clock
+
+-- a border write: its position, and its colour
 pub record Ink : Type 0 where
   pub at : ℕ
   pub colour : ℕ
@@ -86,7 +89,7 @@ frameGoesOn m n c l = record { current = withSight (sightAt m (c .clock + n) c) 
 unfoldable pub noted : ZXMachine → Op → Core → Log → Log
 noted m (tick n) c l = cond (closes m n c) (frameEnds m n c l) (frameGoesOn m n c l)
 noted m (colour k) c l =
-    record { current = withInk (record { at = borderPosition (specsOf m) (c .clock); colour = k }) (l .current); done = l .done }
+    record { current = withInk (record { at = pixelsCome m (c .clock); colour = k }) (l .current); done = l .done }
 noted m (paged v) c l = l
 noted m (poke i v) c l = l
 noted m (load p bytes) c l = l
