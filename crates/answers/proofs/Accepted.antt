@@ -2,7 +2,7 @@
 -- Assumes nothing.
 use Prim.Native.Nat.{ℕ, _<_, _^_}
 use mathlib.Core.Path.{_≡_, sym, ap}
-use mathlib.Core.Bool.{true, false, _&&_}
+use mathlib.Core.Bool.{Bool, true, false, _&&_}
 use mathlib.Core.List.{List, [], _∷_}
 use native.Mathlib.Omega.{arith}
 use borrow.Author.Tests.{eqb-true, eqb-false, ltb-false, not-false}
@@ -22,9 +22,9 @@ use Rattle.memory.specs.Paging.{pageExists}
 use Rattle.ports.specs.Devices.{flagsOf}
 use Rattle.answers.specs.declared.Verdict.the-variants.{Accepted}
 use Rattle.answers.specs.Refusals.{Cause, judgedHeld, judge}
-use Rattle.answers.specs.Judges.{ramFits, romFits, pictureFits, borderFits, timedFits, numberFits, lentFit, judgeWait, judgePort, judgeState, judgeTold, judgeRead, judgeWrite, judgeLoad, judgeRamPage, judgeRamPageTold, judgeBlock, judgeBlockTold, judgeShown, judgeShownTold, judgeStill}
+use Rattle.answers.specs.Judges.{ramFits, romFits, pictureFits, borderFits, timedFits, numberFits, lentFit, judgeWait, judgePort, judgeState, judgeTold, judgeRead, judgeWrite, judgeLoad, judgeRamPage, judgeBlock, judgeShown, judgeStill}
 use Rattle.answers.specs.Order.{NoneHolds}
-use Rattle.answers.specs.Ready.{OnRecord, Fit, ReadyWait, ReadyPort, ReadyTold, ReadyRead, ReadyWrite, ReadyLoad, ReadyRamPage, ReadyRamPageTold, ReadyBlock, ReadyBlockTold, ReadyShown, ReadyShownTold, ReadyStill}
+use Rattle.answers.specs.Ready.{OnRecord, Fit, ReadyWait, ReadyPort, ReadyTold, ReadyRead, ReadyWrite, ReadyLoad, ReadyRamPage, ReadyBlock, ReadyShown, ReadyStill}
 use Rattle.answers.proofs.Judging.{never}
 use Rattle.answers.proofs.Order.{accepted-by-none}
 
@@ -132,73 +132,37 @@ module _ (state : List ℕ) (bus : Bus) where
         exists = not-false (pageExists (bus .machine) page) (r .1 .1 .0);
       }
 
-  pub ready-ram-page : (ram page : ℕ) → judgeRamPage state ram page ≡ Accepted bus → ReadyRamPage state ram page bus
+  pub ready-ram-page : (ram page : ℕ) (fits : Bool) → judgeRamPage state ram page fits ≡ Accepted bus → ReadyRamPage state ram page fits bus
   unfolding judgeRamPage
-  ready-ram-page ram page p =
+  ready-ram-page ram page fits p =
       let r = accepted state _ bus p in
+      let test = each (ramFits bus ram) (fits ∷ []) (not-false _ (r .1 .0)) in
       record {
         onRecord = r .0;
-        ramIs = eqb-true ram (specsOf (bus .machine) .ram) (not-false (ramFits bus ram) (r .1 .0));
+        ramIs = eqb-true ram (specsOf (bus .machine) .ram) (test 0);
+        answerFits = test 1;
         exists = not-false (pageExists (bus .machine) page) (r .1 .1 .0);
       }
 
-  pub ready-ram-page-told : (ram page answer : ℕ) → judgeRamPageTold state ram page answer ≡ Accepted bus → ReadyRamPageTold state ram page answer bus
-  unfolding judgeRamPageTold
-  ready-ram-page-told ram page answer p =
-      let r = accepted state _ bus p in
-      let test = each (ramFits bus ram) (numberFits answer ∷ []) (not-false _ (r .1 .0)) in
-      record {
-        part = record {
-          onRecord = r .0;
-          ramIs = eqb-true ram (specsOf (bus .machine) .ram) (test 0);
-          exists = not-false (pageExists (bus .machine) page) (r .1 .1 .0);
-        };
-        answerIs = eqb-true answer 5 (test 1);
-      }
-
-  pub ready-block : (rom ram block : ℕ) → judgeBlock state rom ram block ≡ Accepted bus → ReadyBlock state rom ram block bus
+  pub ready-block : (rom ram block : ℕ) (fits : Bool) → judgeBlock state rom ram block fits ≡ Accepted bus → ReadyBlock state rom ram block fits bus
   unfolding judgeBlock
-  ready-block rom ram block p =
+  ready-block rom ram block fits p =
       let r = accepted state _ bus p in
-      let test = each (romFits bus rom) (ramFits bus ram ∷ []) (not-false _ (r .1 .0)) in
+      let test = each (romFits bus rom) (ramFits bus ram ∷ fits ∷ []) (not-false _ (r .1 .0)) in
       record {
         onRecord = r .0;
         romIs = eqb-true rom (specsOf (bus .machine) .rom) (test 0);
         ramIs = eqb-true ram (specsOf (bus .machine) .ram) (test 1);
+        answerFits = test 2;
         blockIn = ltb-false 3 block (r .1 .1 .0);
       }
 
-  pub ready-block-told : (rom ram block answer : ℕ) → judgeBlockTold state rom ram block answer ≡ Accepted bus → ReadyBlockTold state rom ram block answer bus
-  unfolding judgeBlockTold
-  ready-block-told rom ram block answer p =
-      let r = accepted state _ bus p in
-      let test = each (romFits bus rom) (ramFits bus ram ∷ numberFits answer ∷ []) (not-false _ (r .1 .0)) in
-      record {
-        part = record {
-          onRecord = r .0;
-          romIs = eqb-true rom (specsOf (bus .machine) .rom) (test 0);
-          ramIs = eqb-true ram (specsOf (bus .machine) .ram) (test 1);
-          blockIn = ltb-false 3 block (r .1 .1 .0);
-        };
-        answerIs = eqb-true answer 5 (test 2);
-      }
-
-  pub ready-shown : (a b : ℕ) → judgeShown state a b ≡ Accepted bus → ReadyShown state a b bus
+  pub ready-shown : (a b : ℕ) (fits : Bool) → judgeShown state a b fits ≡ Accepted bus → ReadyShown state a b fits bus
   unfolding judgeShown
-  ready-shown a b p =
+  ready-shown a b fits p =
       let r = accepted state _ bus p in
-      let test = each (pictureFits a) (pictureFits b ∷ []) (not-false _ (r .1 .0)) in
-      record { onRecord = r .0; aIs = eqb-true a 49152 (test 0); bIs = eqb-true b 49152 (test 1) }
-
-  pub ready-shown-told : (a b answer : ℕ) → judgeShownTold state a b answer ≡ Accepted bus → ReadyShownTold state a b answer bus
-  unfolding judgeShownTold
-  ready-shown-told a b answer p =
-      let r = accepted state _ bus p in
-      let test = each (pictureFits a) (pictureFits b ∷ numberFits answer ∷ []) (not-false _ (r .1 .0)) in
-      record {
-        part = record { onRecord = r .0; aIs = eqb-true a 49152 (test 0); bIs = eqb-true b 49152 (test 1) };
-        answerIs = eqb-true answer 5 (test 2);
-      }
+      let test = each (pictureFits a) (pictureFits b ∷ fits ∷ []) (not-false _ (r .1 .0)) in
+      record { onRecord = r .0; aIs = eqb-true a 49152 (test 0); bIs = eqb-true b 49152 (test 1); answerFits = test 2 }
 
   pub ready-still : (ram picture flash : ℕ) → judgeStill state ram picture flash ≡ Accepted bus → ReadyStill state ram picture flash bus
   unfolding judgeStill

@@ -2,7 +2,7 @@
 -- Assumes nothing.
 use Prim.Native.Nat.{ℕ, _≤_, _<_}
 use mathlib.Core.Path.{_≡_}
-use mathlib.Core.Bool.{true}
+use mathlib.Core.Bool.{Bool, true}
 use mathlib.Core.List.{List}
 use lib.ListN.{length}
 use Rattle.machine.specs.Numbers.{specsOf}
@@ -61,33 +61,24 @@ pub record ReadyLoad (state : List ℕ) (ram bytes page : ℕ) (bus : Bus) : Typ
   pub bytesIs : bytes ≡ 16384
   pub exists : pageExists (bus .machine) page ≡ true
 
-pub record ReadyRamPage (state : List ℕ) (ram page : ℕ) (bus : Bus) : Type 0 where
+pub record ReadyRamPage (state : List ℕ) (ram page : ℕ) (fits : Bool) (bus : Bus) : Type 0 where
   pub onRecord : OnRecord state bus
   pub ramIs : ram ≡ specsOf (bus .machine) .ram
+  pub answerFits : fits ≡ true
   pub exists : pageExists (bus .machine) page ≡ true
 
-pub record ReadyRamPageTold (state : List ℕ) (ram page answer : ℕ) (bus : Bus) : Type 0 where
-  pub part : ReadyRamPage state ram page bus
-  pub answerIs : answer ≡ 5
-
-pub record ReadyBlock (state : List ℕ) (rom ram block : ℕ) (bus : Bus) : Type 0 where
+pub record ReadyBlock (state : List ℕ) (rom ram block : ℕ) (fits : Bool) (bus : Bus) : Type 0 where
   pub onRecord : OnRecord state bus
   pub romIs : rom ≡ specsOf (bus .machine) .rom
   pub ramIs : ram ≡ specsOf (bus .machine) .ram
+  pub answerFits : fits ≡ true
   pub blockIn : block ≤ 3
 
-pub record ReadyBlockTold (state : List ℕ) (rom ram block answer : ℕ) (bus : Bus) : Type 0 where
-  pub part : ReadyBlock state rom ram block bus
-  pub answerIs : answer ≡ 5
-
-pub record ReadyShown (state : List ℕ) (a b : ℕ) (bus : Bus) : Type 0 where
+pub record ReadyShown (state : List ℕ) (a b : ℕ) (fits : Bool) (bus : Bus) : Type 0 where
   pub onRecord : OnRecord state bus
   pub aIs : a ≡ 49152
   pub bIs : b ≡ 49152
-
-pub record ReadyShownTold (state : List ℕ) (a b answer : ℕ) (bus : Bus) : Type 0 where
-  pub part : ReadyShown state a b bus
-  pub answerIs : answer ≡ 5
+  pub answerFits : fits ≡ true
 
 pub record ReadyStill (state : List ℕ) (ram picture flash : ℕ) (bus : Bus) : Type 0 where
   pub onRecord : OnRecord state bus

@@ -2,13 +2,11 @@
 // What it promises: each judgement is the first refusal, in the stated order, whose condition holds, or the sound record where none does; each answer has exactly the stated bytes.
 // Where its definitions stand: specs/Refusals.antt (numbers and order), specs/Judges.antt (each call's conditions), specs/Answers.antt (bytes).
 ghost use mathlib.Core.Path.{_≡_};
-ghost use mathlib.Core.List.{[], _∷_};
 ghost use Prim.Native.Nat.{_<_};
 ghost use lib.ListN.{length, replicate};
 ghost use Rattle.record.specs.Record.{flagByte};
-ghost use Rattle.answers.specs.declared.Refusal.the-variants.{BadLength, BadFlag, LongWait, FramesFull, BadPage, BadNumber};
-ghost use Rattle.answers.specs.Refusals.{refusalNumber, cause, judged};
-ghost use Rattle.answers.specs.Judges.{ramFits, romFits, lentFit, judgeWait, judgePort, judgeState, judgeTold, judgeRead, judgeWrite, judgeLoad, judgeRamPage, judgeRamPageTold, judgeBlock, judgeBlockTold, judgeShown, judgeShownTold, judgeStill, framesFull, badPage};
+ghost use Rattle.answers.specs.Refusals.{refusalNumber, judged, inTurn};
+ghost use Rattle.answers.specs.Judges.{ramFits, romFits, lentFit, judgeWait, judgePort, judgeState, judgeTold, judgeRead, judgeWrite, judgeLoad, judgeRamPage, judgeBlock, judgeShown, judgeStill, framesFull, badPage};
 ghost use Rattle.answers.specs.Answers.{timedAnswer, numberAnswer, refusedAnswer};
 use record::Bus;
 use record::Held;
@@ -46,34 +44,46 @@ pub fn number(e: Refusal) -> u8
     }
 }
 
-// The order behind the record, in one place: "other lengths, 4, 5, 6, 7, 8". Each test says that its condition holds.
-fn first_cause(
-    bus: Bus,
+// The causes behind the record, each by whether it holds, in their order: "other lengths, 4, 5, 6, 7, 8".
+struct Causes {
     length: bool,
     flag: bool,
     wait: bool,
     frames: bool,
     page: bool,
     number: bool,
-) -> Verdict
-    ensures { λ r. ⌜ r ≡ judged (cause BadLength length ∷ cause BadFlag flag ∷ cause LongWait wait ∷ cause FramesFull frames ∷ cause BadPage page ∷ cause BadNumber number ∷ []) bus ⌝ }
+}
+
+// A call names the causes that are its own; no other holds.
+const NONE: Causes = Causes {
+    length: false,
+    flag: false,
+    wait: false,
+    frames: false,
+    page: false,
+    number: false,
+};
+
+// The first cause that holds refuses.
+fn first_cause(bus: Bus, causes: Causes) -> Verdict
+    ensures { λ r. ⌜ r ≡ judged (inTurn causes) bus ⌝ }
 {
-    if length {
+    if causes.length {
         return Verdict::Refused(Refusal::BadLength);
     }
-    if flag {
+    if causes.flag {
         return Verdict::Refused(Refusal::BadFlag);
     }
-    if wait {
+    if causes.wait {
         return Verdict::Refused(Refusal::LongWait);
     }
-    if frames {
+    if causes.frames {
         return Verdict::Refused(Refusal::FramesFull);
     }
-    if page {
+    if causes.page {
         return Verdict::Refused(Refusal::BadPage);
     }
-    if number {
+    if causes.number {
         return Verdict::Refused(Refusal::BadNumber);
     }
     Verdict::Accepted(bus)
@@ -139,7 +149,15 @@ pub fn judge_wait(
         Verdict::Accepted(bus) => {
             let fit = lent_fit(bus, ram, a, b, border) & (answer == 10);
             let full = frames_full(bus);
-            first_cause(bus, !fit, false, 65535 < clocks, full, false, false)
+            first_cause(
+                bus,
+                Causes {
+                    length: !fit,
+                    wait: 65535 < clocks,
+                    frames: full,
+                    ..NONE
+                },
+            )
         }
     }
 }
@@ -164,7 +182,15 @@ pub fn judge_port(
                 let fit = lent_fit(bus, ram, a, b, border) & (answer == 10);
                 let flags = ports::flags(devices);
                 let full = frames_full(bus);
-                first_cause(bus, !fit, !flags, false, full, false, false)
+                first_cause(
+                    bus,
+                    Causes {
+                        length: !fit,
+                        flag: !flags,
+                        frames: full,
+                        ..NONE
+                    },
+                )
             } else {
                 Verdict::Refused(Refusal::BadLength)
             }
@@ -180,7 +206,13 @@ pub fn judge_told(state: &[u8], answer: usize) -> Verdict
     match v {
         Verdict::Refused(e) => Verdict::Refused(e),
         Verdict::Accepted(bus) => {
-            first_cause(bus, !(answer == 5), false, false, false, false, false)
+            first_cause(
+                bus,
+                Causes {
+                    length: !(answer == 5),
+                    ..NONE
+                },
+            )
         }
     }
 }
@@ -193,7 +225,13 @@ pub fn judge_read(state: &[u8], rom: usize, ram: usize, answer: usize) -> Verdic
         Verdict::Refused(e) => Verdict::Refused(e),
         Verdict::Accepted(bus) => {
             let fit = rom_fits(bus, rom) & ram_fits(bus, ram) & (answer == 5);
-            first_cause(bus, !fit, false, false, false, false, false)
+            first_cause(
+                bus,
+                Causes {
+                    length: !fit,
+                    ..NONE
+                },
+            )
         }
     }
 }
@@ -206,7 +244,13 @@ pub fn judge_write(state: &[u8], ram: usize) -> Verdict
         Verdict::Refused(e) => Verdict::Refused(e),
         Verdict::Accepted(bus) => {
             let fit = ram_fits(bus, ram);
-            first_cause(bus, !fit, false, false, false, false, false)
+            first_cause(
+                bus,
+                Causes {
+                    length: !fit,
+                    ..NONE
+                },
+            )
         }
     }
 }
@@ -227,87 +271,75 @@ pub fn judge_load(state: &[u8], ram: usize, bytes: usize, page: u32) -> Verdict
         Verdict::Accepted(bus) => {
             let fit = ram_fits(bus, ram) & (bytes == 16384);
             let missing = page_missing(bus, page);
-            first_cause(bus, !fit, false, false, false, missing, false)
+            first_cause(
+                bus,
+                Causes {
+                    length: !fit,
+                    page: missing,
+                    ..NONE
+                },
+            )
         }
     }
 }
 
-pub fn judge_ram_page(state: &[u8], ram: usize, page: u32) -> Verdict
-    ensures { λ r. ⌜ r ≡ judgeRamPage (now (state .entry)) ram page ⌝ }
+// Of the three that hand back a part, `fits` says that the answer has its length; a Rattle caller lends none, and says true.
+pub fn judge_ram_page(state: &[u8], ram: usize, page: u32, fits: bool) -> Verdict
+    ensures { λ r. ⌜ r ≡ judgeRamPage (now (state .entry)) ram page fits ⌝ }
 {
     let v = judge_state(state);
     match v {
         Verdict::Refused(e) => Verdict::Refused(e),
         Verdict::Accepted(bus) => {
-            let fit = ram_fits(bus, ram);
+            let fit = ram_fits(bus, ram) & fits;
             let missing = page_missing(bus, page);
-            first_cause(bus, !fit, false, false, false, missing, false)
+            first_cause(
+                bus,
+                Causes {
+                    length: !fit,
+                    page: missing,
+                    ..NONE
+                },
+            )
         }
     }
 }
 
-pub fn judge_ram_page_told(state: &[u8], ram: usize, page: u32, answer: usize) -> Verdict
-    ensures { λ r. ⌜ r ≡ judgeRamPageTold (now (state .entry)) ram page answer ⌝ }
+pub fn judge_block(state: &[u8], rom: usize, ram: usize, block: u32, fits: bool) -> Verdict
+    ensures { λ r. ⌜ r ≡ judgeBlock (now (state .entry)) rom ram block fits ⌝ }
 {
     let v = judge_state(state);
     match v {
         Verdict::Refused(e) => Verdict::Refused(e),
         Verdict::Accepted(bus) => {
-            let fit = ram_fits(bus, ram) & (answer == 5);
-            let missing = page_missing(bus, page);
-            first_cause(bus, !fit, false, false, false, missing, false)
+            let fit = rom_fits(bus, rom) & ram_fits(bus, ram) & fits;
+            first_cause(
+                bus,
+                Causes {
+                    length: !fit,
+                    number: 3 < block,
+                    ..NONE
+                },
+            )
         }
     }
 }
 
-pub fn judge_block(state: &[u8], rom: usize, ram: usize, block: u32) -> Verdict
-    ensures { λ r. ⌜ r ≡ judgeBlock (now (state .entry)) rom ram block ⌝ }
+pub fn judge_shown(state: &[u8], a: usize, b: usize, fits: bool) -> Verdict
+    ensures { λ r. ⌜ r ≡ judgeShown (now (state .entry)) a b fits ⌝ }
 {
     let v = judge_state(state);
     match v {
         Verdict::Refused(e) => Verdict::Refused(e),
         Verdict::Accepted(bus) => {
-            let fit = rom_fits(bus, rom) & ram_fits(bus, ram);
-            first_cause(bus, !fit, false, false, false, false, 3 < block)
-        }
-    }
-}
-
-pub fn judge_block_told(state: &[u8], rom: usize, ram: usize, block: u32, answer: usize) -> Verdict
-    ensures { λ r. ⌜ r ≡ judgeBlockTold (now (state .entry)) rom ram block answer ⌝ }
-{
-    let v = judge_state(state);
-    match v {
-        Verdict::Refused(e) => Verdict::Refused(e),
-        Verdict::Accepted(bus) => {
-            let fit = rom_fits(bus, rom) & ram_fits(bus, ram) & (answer == 5);
-            first_cause(bus, !fit, false, false, false, false, 3 < block)
-        }
-    }
-}
-
-pub fn judge_shown(state: &[u8], a: usize, b: usize) -> Verdict
-    ensures { λ r. ⌜ r ≡ judgeShown (now (state .entry)) a b ⌝ }
-{
-    let v = judge_state(state);
-    match v {
-        Verdict::Refused(e) => Verdict::Refused(e),
-        Verdict::Accepted(bus) => {
-            let fit = (a == 49152) & (b == 49152);
-            first_cause(bus, !fit, false, false, false, false, false)
-        }
-    }
-}
-
-pub fn judge_shown_told(state: &[u8], a: usize, b: usize, answer: usize) -> Verdict
-    ensures { λ r. ⌜ r ≡ judgeShownTold (now (state .entry)) a b answer ⌝ }
-{
-    let v = judge_state(state);
-    match v {
-        Verdict::Refused(e) => Verdict::Refused(e),
-        Verdict::Accepted(bus) => {
-            let fit = (a == 49152) & (b == 49152) & (answer == 5);
-            first_cause(bus, !fit, false, false, false, false, false)
+            let fit = (a == 49152) & (b == 49152) & fits;
+            first_cause(
+                bus,
+                Causes {
+                    length: !fit,
+                    ..NONE
+                },
+            )
         }
     }
 }
@@ -320,7 +352,14 @@ pub fn judge_still(state: &[u8], ram: usize, picture: usize, flash: u32) -> Verd
         Verdict::Refused(e) => Verdict::Refused(e),
         Verdict::Accepted(bus) => {
             let fit = ram_fits(bus, ram) & (picture == 49152);
-            first_cause(bus, !fit, false, false, false, false, 1 < flash)
+            first_cause(
+                bus,
+                Causes {
+                    length: !fit,
+                    number: 1 < flash,
+                    ..NONE
+                },
+            )
         }
     }
 }

@@ -3,7 +3,7 @@
 -- Assumes nothing.
 use Prim.Native.Nat.{ℕ, _+_, _*_, _≤_, _<_}
 use mathlib.Core.Path.{_≡_, refl, ap, _∙_}
-use mathlib.Core.Bool.{true}
+use mathlib.Core.Bool.{Bool, true}
 use mathlib.Core.List.{List, []}
 use lib.ListN.{length}
 use native.Mathlib.Omega.{arith}
@@ -27,7 +27,7 @@ use Rattle.answers.specs.declared.Verdict.{Verdict}
 use Rattle.answers.specs.declared.Verdict.the-variants.{Refused, Accepted}
 use Rattle.answers.specs.Refusals.{refusalNumber}
 use Rattle.answers.specs.Answers.{numberAnswer, refusedAnswer}
-use Rattle.answers.specs.Ready.{ReadyLoad, ReadyRamPage, ReadyRamPageTold, ReadyBlock, ReadyStill}
+use Rattle.answers.specs.Ready.{ReadyLoad, ReadyRamPage, ReadyBlock, ReadyStill}
 use Rattle.contracts.specs.Plain.{told, tell, changed, change, withPaging, repaged, repage, part, stillPage}
 use Rattle.contracts.specs.Helpers.{helperCall}
 
@@ -84,7 +84,7 @@ module _ (h : Helped) (answer : List ℕ) where
 
 -- ---- what an accepted call may ask of the memory
 -- a RAM page that is there is whole in RAM, and its number is one byte
-pub page-fits : {state : List ℕ} {ram number : ℕ} {bus : Bus} → ReadyRamPage state ram number bus → 16384 * number + 16384 ≤ ram
+pub page-fits : {state : List ℕ} {ram number : ℕ} {fits : Bool} {bus : Bus} → ReadyRamPage state ram number fits bus → 16384 * number + 16384 ≤ ram
 page-fits {number = number} {bus = bus} r = rw (r .ramIs) (exists-fits (bus .machine) number (r .exists))
 
 pub load-fits : {state : List ℕ} {ram bytes number : ℕ} {bus : Bus} → ReadyLoad state ram bytes number bus → (bytes ≡ 16384) × (16384 * number + 16384 ≤ ram)
@@ -94,11 +94,11 @@ small : (m : ZXMachine) (number : ℕ) → pageExists m number ≡ true → numb
 small Sinclair48K number e = omega (arith, leb-true number 2 e)
 small Sinclair128K number e = omega (arith, leb-true number 7 e)
 
-pub page-small : {state : List ℕ} {ram number answer : ℕ} {bus : Bus} → ReadyRamPageTold state ram number answer bus → number < 8
-page-small {number = number} {bus = bus} r = small (bus .machine) number (r .part .exists)
+pub page-small : {state : List ℕ} {ram number : ℕ} {fits : Bool} {bus : Bus} → ReadyRamPage state ram number fits bus → number < 8
+page-small {number = number} {bus = bus} r = small (bus .machine) number (r .exists)
 
 -- so is the page at a block
-pub block-holds : {state : List ℕ} {rom ram number : ℕ} {bus : Bus} (p : Page) → ReadyBlock state rom ram number bus
+pub block-holds : {state : List ℕ} {rom ram number : ℕ} {fits : Bool} {bus : Bus} (p : Page) → ReadyBlock state rom ram number fits bus
     → p ≡ pageAt (bus .machine) (bus .paging) number → Holds p rom ram
 block-holds {number = number} {bus = bus} p r e = rw (e, r .romIs, r .ramIs) (map-holds (bus .machine) (bus .paging) number)
 

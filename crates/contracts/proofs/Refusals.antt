@@ -26,10 +26,10 @@ use Rattle.answers.specs.declared.Refusal.the-variants.{BadMachine, BadLength, 
 use Rattle.answers.specs.declared.Verdict.{Verdict}
 use Rattle.answers.specs.declared.Verdict.the-variants.{Refused, Accepted}
 use Rattle.answers.specs.Refusals.{refusalNumber, Cause, cause, judged}
-use Rattle.answers.specs.Judges.{numberFits, unless, judgeState, judgeTold, judgeRead, judgeWrite, judgeLoad, judgeRamPageTold, judgeBlockTold, judgeShownTold, judgeStill}
+use Rattle.answers.specs.Judges.{numberFits, unless, noCauses, waitCauses, portCauses, toldCauses, readCauses, writeCauses, loadCauses, ramPageCauses, blockCauses, shownCauses, stillCauses, judgeState, judgeTold, judgeRead, judgeWrite, judgeLoad, judgeRamPage, judgeBlock, judgeShown, judgeStill}
 use Rattle.answers.specs.Answers.{refusedAnswer}
-use Rattle.answers.specs.Order.{Ordered, Numbered, documentOrder, numbersOf, standIn, stateCauses, waitCauses, portCauses, toldCauses, readCauses, writeCauses, loadCauses, ramPageToldCauses, blockToldCauses, shownToldCauses, stillCauses}
-use Rattle.answers.proofs.Order.{by-list, state-ordered, wait-ordered, port-ordered, told-ordered, read-ordered, write-ordered, load-ordered, ram-page-told-ordered, block-told-ordered, shown-told-ordered, still-ordered}
+use Rattle.answers.specs.Order.{Ordered, Numbered, documentOrder, numbersOf, standIn, allCauses}
+use Rattle.answers.proofs.Order.{by-list, state-ordered, wait-ordered, port-ordered, told-ordered, read-ordered, write-ordered, load-ordered, ram-page-ordered, block-ordered, shown-ordered, still-ordered}
 use Rattle.contracts.specs.Timed.{Lent, Outcome, timed, judgeWaitOf, judgePortOf, waitInternal, waitAt, readIo, writeIo, lentBy, startFitsOf, Started, startLeaves, start}
 use Rattle.contracts.specs.Plain.{codeOf, Told, told, tell, Changed, change, Repaged, repage, readInternal, writeInternal, write7ffdCall, read7ffd, intActive, framesCount, resetFrames, loadPage, stillPicture, ramPageTold, blockTold, shownTold}
 use Rattle.contracts.specs.Helpers.{help, helperCall, colorHelped, bitmapLineAddr, bitmapLineRel, bitmapColRel, attrRowRel, attrColRel, colorFromBits}
@@ -124,7 +124,7 @@ module _ (value : ℕ) (state answer : List ℕ) where
   repaged-kept (Accepted bus) o p n = absurd (n (ap (λ (x : Repaged). x .code) p))
 
 -- ---- every call
-pub wait-internal-numbered : (l : Lent) (clocks : ℕ) (answer : List ℕ) → Numbered (waitInternal l clocks answer .code) (waitCauses (l .state) (length (l .ram)) (length (l .a)) (length (l .b)) (length (l .border)) clocks (length answer))
+pub wait-internal-numbered : (l : Lent) (clocks : ℕ) (answer : List ℕ) → Numbered (waitInternal l clocks answer .code) (allCauses (l .state) (waitCauses (length (l .ram)) (length (l .a)) (length (l .b)) (length (l .border)) clocks (length answer)))
 unfolding waitInternal
 wait-internal-numbered l clocks answer = numbered (judgeWaitOf l clocks answer) _ _ _ (timed-code _ _ _ _ (judgeWaitOf l clocks answer) (waitInternal l clocks answer) refl) (wait-ordered (l .state) (length (l .ram)) (length (l .a)) (length (l .b)) (length (l .border)) clocks (length answer))
 
@@ -132,7 +132,7 @@ pub wait-internal-unaltered : (l : Lent) (clocks : ℕ) (answer : List ℕ) → 
 unfolding waitInternal
 wait-internal-unaltered l clocks answer n = timed-kept _ _ _ _ (judgeWaitOf l clocks answer) (waitInternal l clocks answer) refl n
 
-pub wait-at-numbered : (l : Lent) (addr clocks : ℕ) (answer : List ℕ) → Numbered (waitAt l addr clocks answer .code) (waitCauses (l .state) (length (l .ram)) (length (l .a)) (length (l .b)) (length (l .border)) clocks (length answer))
+pub wait-at-numbered : (l : Lent) (addr clocks : ℕ) (answer : List ℕ) → Numbered (waitAt l addr clocks answer .code) (allCauses (l .state) (waitCauses (length (l .ram)) (length (l .a)) (length (l .b)) (length (l .border)) clocks (length answer)))
 unfolding waitAt
 wait-at-numbered l addr clocks answer = numbered (judgeWaitOf l clocks answer) _ _ _ (timed-code _ _ _ _ (judgeWaitOf l clocks answer) (waitAt l addr clocks answer) refl) (wait-ordered (l .state) (length (l .ram)) (length (l .a)) (length (l .b)) (length (l .border)) clocks (length answer))
 
@@ -140,7 +140,7 @@ pub wait-at-unaltered : (l : Lent) (addr clocks : ℕ) (answer : List ℕ) → (
 unfolding waitAt
 wait-at-unaltered l addr clocks answer n = timed-kept _ _ _ _ (judgeWaitOf l clocks answer) (waitAt l addr clocks answer) refl n
 
-pub read-io-numbered : (l : Lent) (devices : List ℕ) (port : ℕ) (answer : List ℕ) → Numbered (readIo l devices port answer .code) (portCauses (l .state) devices (length (l .ram)) (length (l .a)) (length (l .b)) (length (l .border)) (length answer))
+pub read-io-numbered : (l : Lent) (devices : List ℕ) (port : ℕ) (answer : List ℕ) → Numbered (readIo l devices port answer .code) (allCauses (l .state) (portCauses devices (length (l .ram)) (length (l .a)) (length (l .b)) (length (l .border)) (length answer)))
 unfolding readIo
 read-io-numbered l devices port answer = numbered (judgePortOf l devices answer) _ _ _ (timed-code _ _ _ _ (judgePortOf l devices answer) (readIo l devices port answer) refl) (port-ordered (l .state) devices (length (l .ram)) (length (l .a)) (length (l .b)) (length (l .border)) (length answer))
 
@@ -148,7 +148,7 @@ pub read-io-unaltered : (l : Lent) (devices : List ℕ) (port : ℕ) (answer : L
 unfolding readIo
 read-io-unaltered l devices port answer n = timed-kept _ _ _ _ (judgePortOf l devices answer) (readIo l devices port answer) refl n
 
-pub write-io-numbered : (l : Lent) (devices : List ℕ) (port value : ℕ) (answer : List ℕ) → Numbered (writeIo l devices port value answer .code) (portCauses (l .state) devices (length (l .ram)) (length (l .a)) (length (l .b)) (length (l .border)) (length answer))
+pub write-io-numbered : (l : Lent) (devices : List ℕ) (port value : ℕ) (answer : List ℕ) → Numbered (writeIo l devices port value answer .code) (allCauses (l .state) (portCauses devices (length (l .ram)) (length (l .a)) (length (l .b)) (length (l .border)) (length answer)))
 unfolding writeIo
 write-io-numbered l devices port value answer = numbered (judgePortOf l devices answer) _ _ _ (timed-code _ _ _ _ (judgePortOf l devices answer) (writeIo l devices port value answer) refl) (port-ordered (l .state) devices (length (l .ram)) (length (l .a)) (length (l .b)) (length (l .border)) (length answer))
 
@@ -156,7 +156,7 @@ pub write-io-unaltered : (l : Lent) (devices : List ℕ) (port value : ℕ) (ans
 unfolding writeIo
 write-io-unaltered l devices port value answer n = timed-kept _ _ _ _ (judgePortOf l devices answer) (writeIo l devices port value answer) refl n
 
-pub read-internal-numbered : (state rom ram : List ℕ) (addr : ℕ) (answer : List ℕ) → Numbered (readInternal state rom ram addr answer .code) (readCauses state (length rom) (length ram) (length answer))
+pub read-internal-numbered : (state rom ram : List ℕ) (addr : ℕ) (answer : List ℕ) → Numbered (readInternal state rom ram addr answer .code) (allCauses state (readCauses (length rom) (length ram) (length answer)))
 unfolding readInternal
 read-internal-numbered state rom ram addr answer = numbered (judgeRead state (length rom) (length ram) (length answer)) _ _ _ (told-code _ _ (judgeRead state (length rom) (length ram) (length answer)) (readInternal state rom ram addr answer) refl) (read-ordered state (length rom) (length ram) (length answer))
 
@@ -164,7 +164,7 @@ pub read-internal-unaltered : (state rom ram : List ℕ) (addr : ℕ) (answer : 
 unfolding readInternal
 read-internal-unaltered state rom ram addr answer n = told-kept _ _ (judgeRead state (length rom) (length ram) (length answer)) (readInternal state rom ram addr answer) refl n
 
-pub write-internal-numbered : (state ram : List ℕ) (addr value : ℕ) → Numbered (writeInternal state ram addr value .code) (writeCauses state (length ram))
+pub write-internal-numbered : (state ram : List ℕ) (addr value : ℕ) → Numbered (writeInternal state ram addr value .code) (allCauses state (writeCauses (length ram)))
 unfolding writeInternal
 write-internal-numbered state ram addr value = numbered (judgeWrite state (length ram)) _ _ _ (changed-code _ _ (judgeWrite state (length ram)) (writeInternal state ram addr value) refl) (write-ordered state (length ram))
 
@@ -172,7 +172,7 @@ pub write-internal-unaltered : (state ram : List ℕ) (addr value : ℕ) → (wr
 unfolding writeInternal
 write-internal-unaltered state ram addr value n = changed-kept _ _ (judgeWrite state (length ram)) (writeInternal state ram addr value) refl n
 
-pub load-page-numbered : (state ram bytes : List ℕ) (page : ℕ) → Numbered (loadPage state ram bytes page .code) (loadCauses state (length ram) (length bytes) page)
+pub load-page-numbered : (state ram bytes : List ℕ) (page : ℕ) → Numbered (loadPage state ram bytes page .code) (allCauses state (loadCauses (length ram) (length bytes) page))
 unfolding loadPage
 load-page-numbered state ram bytes page = numbered (judgeLoad state (length ram) (length bytes) page) _ _ _ (changed-code _ _ (judgeLoad state (length ram) (length bytes) page) (loadPage state ram bytes page) refl) (load-ordered state (length ram) (length bytes) page)
 
@@ -180,7 +180,7 @@ pub load-page-unaltered : (state ram bytes : List ℕ) (page : ℕ) → (loadPag
 unfolding loadPage
 load-page-unaltered state ram bytes page n = changed-kept _ _ (judgeLoad state (length ram) (length bytes) page) (loadPage state ram bytes page) refl n
 
-pub write-7ffd-numbered : (state : List ℕ) (value : ℕ) (answer : List ℕ) → Numbered (write7ffdCall state value answer .code) (toldCauses state (length answer))
+pub write-7ffd-numbered : (state : List ℕ) (value : ℕ) (answer : List ℕ) → Numbered (write7ffdCall state value answer .code) (allCauses state (toldCauses (length answer)))
 unfolding write7ffdCall
 write-7ffd-numbered state value answer = numbered (judgeTold state (length answer)) _ _ _ (repaged-code _ _ _ (judgeTold state (length answer)) (write7ffdCall state value answer) refl) (told-ordered state (length answer))
 
@@ -188,7 +188,7 @@ pub write-7ffd-unaltered : (state : List ℕ) (value : ℕ) (answer : List ℕ) 
 unfolding write7ffdCall
 write-7ffd-unaltered state value answer n = repaged-kept _ _ _ (judgeTold state (length answer)) (write7ffdCall state value answer) refl n
 
-pub read-7ffd-numbered : (state answer : List ℕ) → Numbered (read7ffd state answer .code) (toldCauses state (length answer))
+pub read-7ffd-numbered : (state answer : List ℕ) → Numbered (read7ffd state answer .code) (allCauses state (toldCauses (length answer)))
 unfolding read7ffd
 read-7ffd-numbered state answer = numbered (judgeTold state (length answer)) _ _ _ (told-code _ _ (judgeTold state (length answer)) (read7ffd state answer) refl) (told-ordered state (length answer))
 
@@ -196,7 +196,7 @@ pub read-7ffd-unaltered : (state answer : List ℕ) → (read7ffd state answer .
 unfolding read7ffd
 read-7ffd-unaltered state answer n = told-kept _ _ (judgeTold state (length answer)) (read7ffd state answer) refl n
 
-pub int-active-numbered : (state answer : List ℕ) → Numbered (intActive state answer .code) (toldCauses state (length answer))
+pub int-active-numbered : (state answer : List ℕ) → Numbered (intActive state answer .code) (allCauses state (toldCauses (length answer)))
 unfolding intActive
 int-active-numbered state answer = numbered (judgeTold state (length answer)) _ _ _ (told-code _ _ (judgeTold state (length answer)) (intActive state answer) refl) (told-ordered state (length answer))
 
@@ -204,7 +204,7 @@ pub int-active-unaltered : (state answer : List ℕ) → (intActive state answer
 unfolding intActive
 int-active-unaltered state answer n = told-kept _ _ (judgeTold state (length answer)) (intActive state answer) refl n
 
-pub frames-count-numbered : (state answer : List ℕ) → Numbered (framesCount state answer .code) (toldCauses state (length answer))
+pub frames-count-numbered : (state answer : List ℕ) → Numbered (framesCount state answer .code) (allCauses state (toldCauses (length answer)))
 unfolding framesCount
 frames-count-numbered state answer = numbered (judgeTold state (length answer)) _ _ _ (told-code _ _ (judgeTold state (length answer)) (framesCount state answer) refl) (told-ordered state (length answer))
 
@@ -212,7 +212,7 @@ pub frames-count-unaltered : (state answer : List ℕ) → (framesCount state an
 unfolding framesCount
 frames-count-unaltered state answer n = told-kept _ _ (judgeTold state (length answer)) (framesCount state answer) refl n
 
-pub reset-frames-numbered : (state : List ℕ) → Numbered (resetFrames state .code) (stateCauses state)
+pub reset-frames-numbered : (state : List ℕ) → Numbered (resetFrames state .code) (allCauses state noCauses)
 unfolding resetFrames
 reset-frames-numbered state = numbered (judgeState state) _ _ _ (changed-code _ _ (judgeState state) (resetFrames state) refl) (state-ordered state)
 
@@ -220,31 +220,31 @@ pub reset-frames-unaltered : (state : List ℕ) → (resetFrames state .code ≡
 unfolding resetFrames
 reset-frames-unaltered state n = changed-kept _ _ (judgeState state) (resetFrames state) refl n
 
-pub ram-page-numbered : (state ram : List ℕ) (page : ℕ) (answer : List ℕ) → Numbered (ramPageTold state ram page answer .code) (ramPageToldCauses state (length ram) page (length answer))
+pub ram-page-numbered : (state ram : List ℕ) (page : ℕ) (answer : List ℕ) → Numbered (ramPageTold state ram page answer .code) (allCauses state (ramPageCauses (length ram) page (numberFits (length answer))))
 unfolding ramPageTold
-ram-page-numbered state ram page answer = numbered (judgeRamPageTold state (length ram) page (length answer)) _ _ _ (told-code _ _ (judgeRamPageTold state (length ram) page (length answer)) (ramPageTold state ram page answer) refl) (ram-page-told-ordered state (length ram) page (length answer))
+ram-page-numbered state ram page answer = numbered (judgeRamPage state (length ram) page (numberFits (length answer))) _ _ _ (told-code _ _ (judgeRamPage state (length ram) page (numberFits (length answer))) (ramPageTold state ram page answer) refl) (ram-page-ordered state (length ram) page (numberFits (length answer)))
 
 pub ram-page-unaltered : (state ram : List ℕ) (page : ℕ) (answer : List ℕ) → (ramPageTold state ram page answer .code ≡ 0 → ⊥) → ramPageTold state ram page answer .answer ≡ refusedAnswer 5 (ramPageTold state ram page answer .code) answer
 unfolding ramPageTold
-ram-page-unaltered state ram page answer n = told-kept _ _ (judgeRamPageTold state (length ram) page (length answer)) (ramPageTold state ram page answer) refl n
+ram-page-unaltered state ram page answer n = told-kept _ _ (judgeRamPage state (length ram) page (numberFits (length answer))) (ramPageTold state ram page answer) refl n
 
-pub block-numbered : (state rom ram : List ℕ) (number : ℕ) (answer : List ℕ) → Numbered (blockTold state rom ram number answer .code) (blockToldCauses state (length rom) (length ram) number (length answer))
+pub block-numbered : (state rom ram : List ℕ) (number : ℕ) (answer : List ℕ) → Numbered (blockTold state rom ram number answer .code) (allCauses state (blockCauses (length rom) (length ram) number (numberFits (length answer))))
 unfolding blockTold
-block-numbered state rom ram number answer = numbered (judgeBlockTold state (length rom) (length ram) number (length answer)) _ _ _ (told-code _ _ (judgeBlockTold state (length rom) (length ram) number (length answer)) (blockTold state rom ram number answer) refl) (block-told-ordered state (length rom) (length ram) number (length answer))
+block-numbered state rom ram number answer = numbered (judgeBlock state (length rom) (length ram) number (numberFits (length answer))) _ _ _ (told-code _ _ (judgeBlock state (length rom) (length ram) number (numberFits (length answer))) (blockTold state rom ram number answer) refl) (block-ordered state (length rom) (length ram) number (numberFits (length answer)))
 
 pub block-unaltered : (state rom ram : List ℕ) (number : ℕ) (answer : List ℕ) → (blockTold state rom ram number answer .code ≡ 0 → ⊥) → blockTold state rom ram number answer .answer ≡ refusedAnswer 5 (blockTold state rom ram number answer .code) answer
 unfolding blockTold
-block-unaltered state rom ram number answer n = told-kept _ _ (judgeBlockTold state (length rom) (length ram) number (length answer)) (blockTold state rom ram number answer) refl n
+block-unaltered state rom ram number answer n = told-kept _ _ (judgeBlock state (length rom) (length ram) number (numberFits (length answer))) (blockTold state rom ram number answer) refl n
 
-pub shown-picture-numbered : (state a b answer : List ℕ) → Numbered (shownTold state a b answer .code) (shownToldCauses state (length a) (length b) (length answer))
+pub shown-picture-numbered : (state a b answer : List ℕ) → Numbered (shownTold state a b answer .code) (allCauses state (shownCauses (length a) (length b) (numberFits (length answer))))
 unfolding shownTold
-shown-picture-numbered state a b answer = numbered (judgeShownTold state (length a) (length b) (length answer)) _ _ _ (told-code _ _ (judgeShownTold state (length a) (length b) (length answer)) (shownTold state a b answer) refl) (shown-told-ordered state (length a) (length b) (length answer))
+shown-picture-numbered state a b answer = numbered (judgeShown state (length a) (length b) (numberFits (length answer))) _ _ _ (told-code _ _ (judgeShown state (length a) (length b) (numberFits (length answer))) (shownTold state a b answer) refl) (shown-ordered state (length a) (length b) (numberFits (length answer)))
 
 pub shown-picture-unaltered : (state a b answer : List ℕ) → (shownTold state a b answer .code ≡ 0 → ⊥) → shownTold state a b answer .answer ≡ refusedAnswer 5 (shownTold state a b answer .code) answer
 unfolding shownTold
-shown-picture-unaltered state a b answer n = told-kept _ _ (judgeShownTold state (length a) (length b) (length answer)) (shownTold state a b answer) refl n
+shown-picture-unaltered state a b answer n = told-kept _ _ (judgeShown state (length a) (length b) (numberFits (length answer))) (shownTold state a b answer) refl n
 
-pub still-picture-numbered : (state ram picture : List ℕ) (flash : ℕ) → Numbered (stillPicture state ram picture flash .code) (stillCauses state (length ram) (length picture) flash)
+pub still-picture-numbered : (state ram picture : List ℕ) (flash : ℕ) → Numbered (stillPicture state ram picture flash .code) (allCauses state (stillCauses (length ram) (length picture) flash))
 unfolding stillPicture
 still-picture-numbered state ram picture flash = numbered (judgeStill state (length ram) (length picture) flash) _ _ _ (changed-code _ _ (judgeStill state (length ram) (length picture) flash) (stillPicture state ram picture flash) refl) (still-ordered state (length ram) (length picture) flash)
 

@@ -1,7 +1,7 @@
 -- Document 01: the calls that take no time, as C calls them, and the three that hand back a part.
 -- Assumes nothing.
 use Prim.Native.Nat.{ℕ}
-use mathlib.Core.Bool.{cond}
+use mathlib.Core.Bool.{true, cond}
 use mathlib.Core.List.{List, []}
 use lib.Dec.{eqb}
 use lib.ListN.{length}
@@ -18,7 +18,7 @@ use Rattle.bus.specs.Time.{showsA}
 use Rattle.answers.specs.declared.Verdict.{Verdict}
 use Rattle.answers.specs.declared.Verdict.the-variants.{Refused, Accepted}
 use Rattle.answers.specs.Refusals.{refusalNumber}
-use Rattle.answers.specs.Judges.{judgeState, judgeTold, judgeRead, judgeWrite, judgeLoad, judgeRamPage, judgeRamPageTold, judgeBlock, judgeBlockTold, judgeShown, judgeShownTold, judgeStill}
+use Rattle.answers.specs.Judges.{judgeState, judgeTold, judgeRead, judgeWrite, judgeLoad, numberFits, judgeRamPage, judgeBlock, judgeShown, judgeStill}
 use Rattle.answers.specs.Answers.{numberAnswer, refusedAnswer}
 
 -- "Every call .. returns its refusal number, 0 if accepted."
@@ -147,27 +147,27 @@ part whole (Accepted bus) = whole bus
 
 -- "RAM page by number"
 unfoldable pub ramPagePart : List ℕ → List ℕ → ℕ → List ℕ
-ramPagePart state ram number = part (λ bus. ramPage number ram) (judgeRamPage state (length ram) number)
+ramPagePart state ram number = part (λ bus. ramPage number ram) (judgeRamPage state (length ram) number true)
 
 -- "the 16 KiB at a block as a part of the lent ROM or RAM"
 unfoldable pub blockPart : List ℕ → List ℕ → List ℕ → ℕ → List ℕ
 blockPart state rom ram block =
-    part (λ bus. pagePart (pageAt (bus .machine) (bus .paging) block) rom ram) (judgeBlock state (length rom) (length ram) block)
+    part (λ bus. pagePart (pageAt (bus .machine) (bus .paging) block) rom ram) (judgeBlock state (length rom) (length ram) block true)
 
 -- "the shown picture handed back from the two lent pictures"
 unfoldable pub shownPart : List ℕ → List ℕ → List ℕ → List ℕ
-shownPart state a b = part (λ bus. cond (showsA (bus .phase)) a b) (judgeShown state (length a) (length b))
+shownPart state a b = part (λ bus. cond (showsA (bus .phase)) a b) (judgeShown state (length a) (length b) true)
 
 -- ulb_ram_page, ulb_block, ulb_shown_picture: "a part reaches C by a 5-byte answer with its start as the number, RAM counted after ROM, B after A"
 unfoldable pub ramPageTold : List ℕ → List ℕ → ℕ → List ℕ → Told
 ramPageTold state ram number answer =
-    tell (λ bus. partStart (bus .machine) (page.Ram number)) answer (judgeRamPageTold state (length ram) number (length answer))
+    tell (λ bus. partStart (bus .machine) (page.Ram number)) answer (judgeRamPage state (length ram) number (numberFits (length answer)))
 
 unfoldable pub blockTold : List ℕ → List ℕ → List ℕ → ℕ → List ℕ → Told
 blockTold state rom ram block answer =
     tell (λ bus. partStart (bus .machine) (pageAt (bus .machine) (bus .paging) block)) answer
-    (judgeBlockTold state (length rom) (length ram) block (length answer))
+    (judgeBlock state (length rom) (length ram) block (numberFits (length answer)))
 
 unfoldable pub shownTold : List ℕ → List ℕ → List ℕ → List ℕ → Told
 shownTold state a b answer =
-    tell (λ bus. cond (showsA (bus .phase)) 0 49152) answer (judgeShownTold state (length a) (length b) (length answer))
+    tell (λ bus. cond (showsA (bus .phase)) 0 49152) answer (judgeShown state (length a) (length b) (numberFits (length answer)))

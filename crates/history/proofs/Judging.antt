@@ -15,13 +15,13 @@ use Rattle.machine.specs.Numbers.{specsOf}
 use Rattle.record.specs.declared.Bus.{Bus}
 use Rattle.record.specs.declared.Held.{Held}
 use Rattle.record.specs.declared.Held.the-variants as held
-use Rattle.record.specs.Record.{recordBytes, recordLength, machineOf, heldBy, flagByte}
+use Rattle.record.specs.Record.{recordBytes, recordLength, machineOf, heldBy, flagByte, startRecord}
 use Rattle.record.specs.Sound.{Sound}
 use Rattle.record.proofs.Soundness.{facts-sound}
 use Rattle.record.proofs.Round.{held-encode}
 use Rattle.machine.specs.Timing.{interrupt}
 use Rattle.memory.specs.declared.Page.the-variants as page
-use Rattle.memory.specs.Paging.{pageAt, pageExists}
+use Rattle.memory.specs.Paging.{pageAt}
 use Rattle.memory.specs.Memory.{byteAt, poked, ramPage, partStart, loaded}
 use Rattle.screen.specs.declared.Helped.{Helped}
 use Rattle.screen.specs.declared.Helped.the-variants as helped
@@ -29,7 +29,6 @@ use Rattle.screen.specs.Address.{lineAddress, lineAt, columnAt, attributeRow, a
 use Rattle.screen.specs.Color.{fromBits}
 use Rattle.paint.specs.Paint.{blocks}
 use Rattle.bus.specs.Time.{showsA}
-use Rattle.ports.specs.Devices.{flagsOf}
 use Rattle.bus.specs.World.{Core, World, busOf, clearPicture, clearBorder}
 use Rattle.bus.specs.Turns.{Part}
 use Rattle.bus.proofs.Kept.{SoundWorld}
@@ -37,8 +36,9 @@ use Rattle.answers.specs.declared.Refusal.{Refusal}
 use Rattle.answers.specs.declared.Refusal.the-variants.{BadMachine, BadLength, Unsound, BadFlag, LongWait, FramesFull, BadPage, BadNumber}
 use Rattle.answers.specs.declared.Verdict.{Verdict}
 use Rattle.answers.specs.declared.Verdict.the-variants.{Refused, Accepted}
-use Rattle.answers.specs.Refusals.{refusalNumber, Cause, cause, judged, judgedHeld, judge}
-use Rattle.answers.specs.Judges.{pictureFits, borderFits, timedFits, numberFits, unless, longWait, judgeWait, judgePort, judgeState, judgeTold, judgeRead, judgeWrite, judgeLoad, judgeRamPageTold, judgeBlockTold, judgeShownTold, judgeStill}
+use Rattle.answers.specs.Refusals.{refusalNumber, Cause, judged, judgedHeld, judge}
+use Rattle.answers.specs.Judges as judges
+use Rattle.answers.specs.Judges.{numberFits, lentFit, judgeWait, judgePort, judgeState, judgeTold, judgeRead, judgeWrite, judgeLoad, judgeRamPage, judgeBlock, judgeShown, judgeStill}
 use Rattle.contracts.specs.Timed.{Lent, lentBy, timed, Started, start, waitInternal, waitAt, readIo, writeIo}
 use Rattle.contracts.specs.Plain.{Told, codeOf, tell, change, repage, withPassed, stillPage, readInternal, writeInternal, write7ffdCall, read7ffd, intActive, framesCount, resetFrames, loadPage, stillPicture, ramPageTold, blockTold, shownTold}
 use Rattle.contracts.specs.Helpers.{help, helperCall, colorHelped, bitmapLineAddr, bitmapLineRel, bitmapColRel, attrRowRel, attrColRel, colorFromBits}
@@ -61,52 +61,47 @@ sizesOf l = record { ram = length (l .ram); a = length (l .a); b = length (l .b)
 abbrev pub Causes : Type 0
 Causes = Sizes → ZXMachine → ℕ → List Cause
 
+-- each call's causes (crate answers, Judges), of a record with this machine and these passed frames
+abbrev pub over : (Sizes → Bus → List Cause) → Causes
+over causes s m passed = causes s (withPassed passed (startRecord m))
+
 -- the slices of a timed call
 abbrev pub lentFits : Sizes → ZXMachine → Bool
-lentFits s m = eqb (s .ram) (specsOf m .ram) && pictureFits (s .a) && pictureFits (s .b) && borderFits (s .border)
+lentFits s m = lentFit (startRecord m) (s .ram) (s .a) (s .b) (s .border)
 
 abbrev pub waitCauses : ℕ → List ℕ → Causes
-waitCauses clocks answer s m passed =
-    unless (lentFits s m && timedFits (length answer)) ∷ longWait clocks ∷ cause FramesFull (eqb passed 4294967295) ∷ []
+waitCauses clocks answer = over (λ s. judges.waitCauses (s .ram) (s .a) (s .b) (s .border) clocks (length answer))
 
 abbrev pub portCauses : List ℕ → List ℕ → Causes
-portCauses devices answer s m passed =
-    unless (eqb (length devices) 35 && (eqb (s .ram) (specsOf m .ram) && pictureFits (s .a) && pictureFits (s .b) && borderFits (s .border)) && timedFits (length answer))
-    ∷ cause BadFlag (not (flagsOf devices)) ∷ cause FramesFull (eqb passed 4294967295) ∷ []
+portCauses devices answer = over (λ s. judges.portCauses devices (s .ram) (s .a) (s .b) (s .border) (length answer))
 
 abbrev pub toldCauses : List ℕ → Causes
-toldCauses answer s m passed = unless (numberFits (length answer)) ∷ []
+toldCauses answer = over (λ s. judges.toldCauses (length answer))
 
 abbrev pub writeCauses : Causes
-writeCauses s m passed = unless (eqb (s .ram) (specsOf m .ram)) ∷ []
+writeCauses = over (λ s. judges.writeCauses (s .ram))
 
 abbrev pub loadCauses : List ℕ → ℕ → Causes
-loadCauses bytes page s m passed =
-    unless (eqb (s .ram) (specsOf m .ram) && eqb (length bytes) 16384) ∷ cause BadPage (not (pageExists m page)) ∷ []
+loadCauses bytes page = over (λ s. judges.loadCauses (s .ram) (length bytes) page)
 
 abbrev pub readCauses : List ℕ → List ℕ → Causes
-readCauses rom answer s m passed =
-    unless (eqb (length rom) (specsOf m .rom) && eqb (s .ram) (specsOf m .ram) && numberFits (length answer)) ∷ []
+readCauses rom answer = over (λ s. judges.readCauses (length rom) (s .ram) (length answer))
 
 abbrev pub pageCauses : ℕ → List ℕ → Causes
-pageCauses page answer s m passed =
-    unless (eqb (s .ram) (specsOf m .ram) && numberFits (length answer)) ∷ cause BadPage (not (pageExists m page)) ∷ []
+pageCauses page answer = over (λ s. judges.ramPageCauses (s .ram) page (numberFits (length answer)))
 
 abbrev pub blockCauses : List ℕ → ℕ → List ℕ → Causes
-blockCauses rom block answer s m passed =
-    unless (eqb (length rom) (specsOf m .rom) && eqb (s .ram) (specsOf m .ram) && numberFits (length answer))
-    ∷ cause BadNumber (ltb 3 block) ∷ []
+blockCauses rom block answer = over (λ s. judges.blockCauses (length rom) (s .ram) block (numberFits (length answer)))
 
 abbrev pub shownCauses : List ℕ → Causes
-shownCauses answer s m passed = unless (pictureFits (s .a) && pictureFits (s .b) && numberFits (length answer)) ∷ []
+shownCauses answer = over (λ s. judges.shownCauses (s .a) (s .b) (numberFits (length answer)))
 
 abbrev pub stillCauses : List ℕ → ℕ → Causes
-stillCauses picture flash s m passed =
-    unless (eqb (s .ram) (specsOf m .ram) && pictureFits (length picture)) ∷ cause BadNumber (ltb 1 flash) ∷ []
+stillCauses picture flash = over (λ s. judges.stillCauses (s .ram) (length picture) flash)
 
 -- the record alone
 abbrev pub noCauses : Causes
-noCauses s m passed = []
+noCauses = over (λ s. judges.noCauses)
 
 -- a call is judged by the record and by such conditions; a start by lengths alone; a helper has no record, and its own number as its code
 pub data Way : Type 0 where
@@ -186,7 +181,7 @@ start-code false false good bad short = refl
 
 -- THE TABLE IS RIGHT: the number that a call returns is the one that its line of the table gives.
 pub code-is : (k : Kind) (l : Lent) → performed k l .code ≡ codeBy (wayOf k) l
-unfolding performed wayOf start waitInternal waitAt readIo writeIo readInternal writeInternal write7ffdCall read7ffd intActive framesCount resetFrames loadPage stillPicture ramPageTold blockTold shownTold judgeWait judgePort judgeState judgeTold judgeRead judgeWrite judgeLoad judgeRamPageTold judgeBlockTold judgeShownTold judgeStill
+unfolding performed wayOf start waitInternal waitAt readIo writeIo readInternal writeInternal write7ffdCall read7ffd intActive framesCount resetFrames loadPage stillPicture ramPageTold blockTold shownTold judgeWait judgePort judgeState judgeTold judgeRead judgeWrite judgeLoad judgeRamPage judgeBlock judgeShown judgeStill
 code-is (startAgain machine) l = start-code (ltb 1 machine) (startLengths (machineOf machine) (length (l .state)) (sizesOf l)) _ _ _
 code-is (plain n answer) l = timed-code _ _ l answer _
 code-is (mreq addr n answer) l = timed-code _ _ l answer _

@@ -16,8 +16,8 @@ use Rattle.memory.specs.Paging as paging
 use Rattle.memory.specs.Paging.{pagingAfter}
 use Rattle.bus.specs.World.{busOf}
 use Rattle.answers.specs.declared.Verdict.the-variants.{Accepted}
-use Rattle.answers.specs.Judges.{judgeTold}
-use Rattle.answers.specs.Order.{Numbered, waitCauses, portCauses, toldCauses}
+use Rattle.answers.specs.Judges.{waitCauses, portCauses, toldCauses, judgeTold}
+use Rattle.answers.specs.Order.{Numbered, allCauses}
 use Rattle.answers.proofs.Order.{state-ordered, wait-ordered, port-ordered, told-ordered, read-ordered, write-ordered, load-ordered}
 use Rattle.contracts.specs.Timed.{Lent, Outcome, lentWorld, judgeWaitOf, judgePortOf, start}
 use Rattle.contracts.specs.Plain.{withPassed, withPaging}
@@ -56,16 +56,16 @@ module _ (rom : List ℕ) (c : ZXController) (l : Lent) (s : SameLent rom c l) w
   ours = ourMachine (c .machine)
 
   wait-accepts : (n : ℕ) (answer : List ℕ) (code : ℕ)
-      → Numbered code (waitCauses (l .state) (length (l .ram)) (length (l .a)) (length (l .b)) (length (l .border)) n (length answer)) → code ≡ 0
+      → Numbered code (allCauses (l .state) (waitCauses (length (l .ram)) (length (l .a)) (length (l .b)) (length (l .border)) n (length answer))) → code ≡ 0
       → judgeWaitOf l n answer ≡ Accepted bus
   wait-accepts n answer code o z = wait-ordered (l .state) (length (l .ram)) (length (l .a)) (length (l .b)) (length (l .border)) n (length answer) .noneAccepts (o .zeroByNone z)
 
   port-accepts : (devices answer : List ℕ) (code : ℕ)
-      → Numbered code (portCauses (l .state) devices (length (l .ram)) (length (l .a)) (length (l .b)) (length (l .border)) (length answer)) → code ≡ 0
+      → Numbered code (allCauses (l .state) (portCauses devices (length (l .ram)) (length (l .a)) (length (l .b)) (length (l .border)) (length answer))) → code ≡ 0
       → judgePortOf l devices answer ≡ Accepted bus
   port-accepts devices answer code o z = port-ordered (l .state) devices (length (l .ram)) (length (l .a)) (length (l .b)) (length (l .border)) (length answer) .noneAccepts (o .zeroByNone z)
 
-  told-accepts : (answer : List ℕ) (code : ℕ) → Numbered code (toldCauses (l .state) (length answer)) → code ≡ 0 → judgeTold (l .state) (length answer) ≡ Accepted bus
+  told-accepts : (answer : List ℕ) (code : ℕ) → Numbered code (allCauses (l .state) (toldCauses (length answer))) → code ≡ 0 → judgeTold (l .state) (length answer) ≡ Accepted bus
   told-accepts answer code o z = told-ordered (l .state) (length answer) .noneAccepts (o .zeroByNone z)
 
   -- what each form of a call leaves

@@ -48,7 +48,7 @@ pub extern "C" fn ulb_load_page(state: &[u8], ram: &mut [u8], src: &[u8], page: 
 pub extern "C" fn ulb_ram_page(state: &[u8], ram: &[u8], page: u32, answer: &mut [u8]) -> u8
     ensures { λ r. ⌜ told r (now (answer .exit)) ≡ ramPageTold (now (state .entry)) (now (ram .entry)) page (now (answer .entry)) ⌝ }
 {
-    let v = answers::judge_ram_page_told(state, ram.len(), page, answer.len());
+    let v = answers::judge_ram_page(state, ram.len(), page, answer.len() == 5);
     match v {
         Verdict::Refused(e) => answers::refuse(answer, 5, e),
         Verdict::Accepted(bus) => {
@@ -71,7 +71,7 @@ pub extern "C" fn ulb_block(
 ) -> u8
     ensures { λ r. ⌜ told r (now (answer .exit)) ≡ blockTold (now (state .entry)) (now (rom .entry)) (now (ram .entry)) block (now (answer .entry)) ⌝ }
 {
-    let v = answers::judge_block_told(state, rom.len(), ram.len(), block, answer.len());
+    let v = answers::judge_block(state, rom.len(), ram.len(), block, answer.len() == 5);
     match v {
         Verdict::Refused(e) => answers::refuse(answer, 5, e),
         Verdict::Accepted(bus) => {
@@ -88,7 +88,7 @@ pub extern "C" fn ulb_block(
 pub fn ram_page<'a>(state: &[u8], ram: &'a [u8], page: u32) -> &'a [u8]
     ensures { λ r. ⌜ now r ≡ ramPagePart (now (state .entry)) (now (ram .entry)) page ⌝ }
 {
-    let v = answers::judge_ram_page(state, ram.len(), page);
+    let v = answers::judge_ram_page(state, ram.len(), page, true);
     match v {
         Verdict::Refused(_) => &ram[..0],
         Verdict::Accepted(_) => memory::ram_page_data(ram, page),
@@ -99,7 +99,7 @@ pub fn ram_page<'a>(state: &[u8], ram: &'a [u8], page: u32) -> &'a [u8]
 pub fn block<'a>(state: &[u8], rom: &'a [u8], ram: &'a [u8], block: u32) -> &'a [u8]
     ensures { λ r. ⌜ now r ≡ blockPart (now (state .entry)) (now (rom .entry)) (now (ram .entry)) block ⌝ }
 {
-    let v = answers::judge_block(state, rom.len(), ram.len(), block);
+    let v = answers::judge_block(state, rom.len(), ram.len(), block, true);
     match v {
         Verdict::Refused(_) => &rom[..0],
         Verdict::Accepted(bus) => {

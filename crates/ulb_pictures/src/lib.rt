@@ -12,7 +12,7 @@ use machine::ZXMachine;
 pub extern "C" fn ulb_shown_picture(state: &[u8], a: &[u8], b: &[u8], answer: &mut [u8]) -> u8
     ensures { λ r. ⌜ told r (now (answer .exit)) ≡ shownTold (now (state .entry)) (now (a .entry)) (now (b .entry)) (now (answer .entry)) ⌝ }
 {
-    let v = answers::judge_shown_told(state, a.len(), b.len(), answer.len());
+    let v = answers::judge_shown(state, a.len(), b.len(), answer.len() == 5);
     match v {
         Verdict::Refused(e) => answers::refuse(answer, 5, e),
         Verdict::Accepted(bus) => {
@@ -34,7 +34,7 @@ fn shown_start(phase: u8) -> u32
 pub fn shown_picture<'a>(state: &[u8], a: &'a [u8], b: &'a [u8]) -> &'a [u8]
     ensures { λ r. ⌜ now r ≡ shownPart (now (state .entry)) (now (a .entry)) (now (b .entry)) ⌝ }
 {
-    let v = answers::judge_shown(state, a.len(), b.len());
+    let v = answers::judge_shown(state, a.len(), b.len(), true);
     match v {
         Verdict::Refused(_) => &a[..0],
         Verdict::Accepted(bus) => { if bus.phase % 2 == 0 { a } else { b } }
