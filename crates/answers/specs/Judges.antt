@@ -7,12 +7,15 @@ use mathlib.Core.List.{List, [], _∷_}
 use lib.Dec.{eqb, ltb}
 use lib.ListN.{length}
 use Rattle.machine.specs.Numbers.{specsOf}
+use Rattle.machine.specs.Limits.{pictureLength, borderLength, pageLength, longestWait}
 use Rattle.record.specs.declared.Bus.{Bus}
+use Rattle.record.specs.Record.{noRoom}
 use Rattle.memory.specs.Paging.{pageExists}
-use Rattle.ports.specs.Devices.{flagsOf}
+use Rattle.ports.specs.Devices.{flagsOf, devicesLength}
 use Rattle.answers.specs.declared.Refusal.the-variants.{BadLength, BadFlag, LongWait, FramesFull, BadPage, BadNumber}
 use Rattle.answers.specs.declared.Verdict.{Verdict}
 use Rattle.answers.specs.Refusals.{Cause, cause, judge}
+use Rattle.answers.specs.Answers.{timedLength, numberLength}
 
 -- the lengths that are right: "RAM, ROM bytes" by the machine, "two pictures A and B of 49,152 bytes", "the border of 76,800 bytes"
 abbrev pub ramFits : Bus → ℕ → Bool
@@ -22,17 +25,17 @@ abbrev pub romFits : Bus → ℕ → Bool
 romFits bus rom = eqb rom (specsOf (bus .machine) .rom)
 
 abbrev pub pictureFits : ℕ → Bool
-pictureFits picture = eqb picture 49152
+pictureFits picture = eqb picture pictureLength
 
 abbrev pub borderFits : ℕ → Bool
-borderFits border = eqb border 76800
+borderFits border = eqb border borderLength
 
 -- "Timed calls .. fill a 10-byte answer", "Other calls with a number to give fill a 5-byte answer"
 abbrev pub timedFits : ℕ → Bool
-timedFits answer = eqb answer 10
+timedFits answer = eqb answer timedLength
 
 abbrev pub numberFits : ℕ → Bool
-numberFits answer = eqb answer 5
+numberFits answer = eqb answer numberLength
 
 -- the slices of a timed call
 abbrev pub lentFit : Bus → ℕ → ℕ → ℕ → ℕ → Bool
@@ -44,11 +47,11 @@ unless fit = cause BadLength (not fit)
 
 -- "a timed call with passed frames at 4,294,967,295"
 abbrev pub framesFull : Bus → Cause
-framesFull bus = cause FramesFull (eqb (bus .passed) 4294967295)
+framesFull bus = cause FramesFull (noRoom (bus .passed))
 
 -- "a wait above 65,535 clocks"
 abbrev pub longWait : ℕ → Cause
-longWait clocks = cause LongWait (ltb 65535 clocks)
+longWait clocks = cause LongWait (ltb longestWait clocks)
 
 -- "a RAM page above 2 (48K) or 7 (128K)"
 abbrev pub badPage : Bus → ℕ → Cause
@@ -69,7 +72,7 @@ judgeWait state ram a b border clocks answer = judge state (waitCauses ram a b b
 -- port read and port write: "a device flag or the tape bit is above 1"
 abbrev pub portCauses : List ℕ → ℕ → ℕ → ℕ → ℕ → ℕ → Bus → List Cause
 portCauses devices ram a b border answer bus =
-    unless (eqb (length devices) 35 && lentFit bus ram a b border && timedFits answer)
+    unless (eqb (length devices) devicesLength && lentFit bus ram a b border && timedFits answer)
     ∷ cause BadFlag (not (flagsOf devices)) ∷ framesFull bus ∷ []
 
 unfoldable pub judgePort : List ℕ → List ℕ → ℕ → ℕ → ℕ → ℕ → ℕ → Verdict
@@ -104,7 +107,7 @@ judgeWrite state ram = judge state (writeCauses ram)
 
 -- page load
 abbrev pub loadCauses : ℕ → ℕ → ℕ → Bus → List Cause
-loadCauses ram bytes page bus = unless (ramFits bus ram && eqb bytes 16384) ∷ badPage bus page ∷ []
+loadCauses ram bytes page bus = unless (ramFits bus ram && eqb bytes pageLength) ∷ badPage bus page ∷ []
 
 unfoldable pub judgeLoad : List ℕ → ℕ → ℕ → ℕ → Verdict
 judgeLoad state ram bytes page = judge state (loadCauses ram bytes page)

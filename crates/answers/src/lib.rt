@@ -7,9 +7,14 @@ ghost use lib.ListN.{length, replicate};
 ghost use Rattle.record.specs.Record.{flagByte};
 ghost use Rattle.answers.specs.Refusals.{refusalNumber, judged, inTurn};
 ghost use Rattle.answers.specs.Judges.{ramFits, romFits, lentFit, judgeWait, judgePort, judgeState, judgeTold, judgeRead, judgeWrite, judgeLoad, judgeRamPage, judgeBlock, judgeShown, judgeStill, framesFull, badPage};
-ghost use Rattle.answers.specs.Answers.{timedAnswer, numberAnswer, refusedAnswer};
+ghost use Rattle.answers.specs.Answers.{timedLength, timedAnswer, numberLength, numberAnswer, refusedAnswer};
 use record::Bus;
 use record::Held;
+
+// Bytes of a timed call's answer, and of another call's with a number to give.
+pub const TIMED_LENGTH: usize = 10;
+
+pub const NUMBER_LENGTH: usize = 5;
 
 pub enum Refusal {
     BadMachine,
@@ -121,14 +126,17 @@ fn rom_fits(bus: Bus, rom: usize) -> bool
 fn lent_fit(bus: Bus, ram: usize, a: usize, b: usize, border: usize) -> bool
     ensures { λ r. ⌜ r ≡ lentFit bus ram a b border ⌝ }
 {
-    ram_fits(bus, ram) & (a == 49152) & (b == 49152) & (border == 76800)
+    ram_fits(bus, ram)
+        & (a == machine::PICTURE_LENGTH)
+        & (b == machine::PICTURE_LENGTH)
+        & (border == machine::BORDER_LENGTH)
 }
 
 // Passed frames at their last number.
 fn frames_full(bus: Bus) -> bool
     ensures { λ r. ⌜ r ≡ framesFull bus .holds ⌝ }
 {
-    bus.passed == 4294967295
+    bus.passed == record::LAST_FRAME
 }
 
 // A slice is given by its length from here on, the state and the device record by their bytes.
@@ -147,13 +155,13 @@ pub fn judge_wait(
     match v {
         Verdict::Refused(e) => Verdict::Refused(e),
         Verdict::Accepted(bus) => {
-            let fit = lent_fit(bus, ram, a, b, border) & (answer == 10);
+            let fit = lent_fit(bus, ram, a, b, border) & (answer == TIMED_LENGTH);
             let full = frames_full(bus);
             first_cause(
                 bus,
                 Causes {
                     length: !fit,
-                    wait: 65535 < clocks,
+                    wait: machine::LONGEST_WAIT < clocks,
                     frames: full,
                     ..NONE
                 },
@@ -178,8 +186,8 @@ pub fn judge_port(
     match v {
         Verdict::Refused(e) => Verdict::Refused(e),
         Verdict::Accepted(bus) => {
-            if devices.len() == 35 {
-                let fit = lent_fit(bus, ram, a, b, border) & (answer == 10);
+            if devices.len() == ports::DEVICES_LENGTH {
+                let fit = lent_fit(bus, ram, a, b, border) & (answer == TIMED_LENGTH);
                 let flags = ports::flags(devices);
                 let full = frames_full(bus);
                 first_cause(
@@ -209,7 +217,7 @@ pub fn judge_told(state: &[u8], answer: usize) -> Verdict
             first_cause(
                 bus,
                 Causes {
-                    length: !(answer == 5),
+                    length: !(answer == NUMBER_LENGTH),
                     ..NONE
                 },
             )
@@ -224,7 +232,7 @@ pub fn judge_read(state: &[u8], rom: usize, ram: usize, answer: usize) -> Verdic
     match v {
         Verdict::Refused(e) => Verdict::Refused(e),
         Verdict::Accepted(bus) => {
-            let fit = rom_fits(bus, rom) & ram_fits(bus, ram) & (answer == 5);
+            let fit = rom_fits(bus, rom) & ram_fits(bus, ram) & (answer == NUMBER_LENGTH);
             first_cause(
                 bus,
                 Causes {
@@ -269,7 +277,7 @@ pub fn judge_load(state: &[u8], ram: usize, bytes: usize, page: u32) -> Verdict
     match v {
         Verdict::Refused(e) => Verdict::Refused(e),
         Verdict::Accepted(bus) => {
-            let fit = ram_fits(bus, ram) & (bytes == 16384);
+            let fit = ram_fits(bus, ram) & (bytes == machine::PAGE_LENGTH);
             let missing = page_missing(bus, page);
             first_cause(
                 bus,
@@ -332,7 +340,7 @@ pub fn judge_shown(state: &[u8], a: usize, b: usize, fits: bool) -> Verdict
     match v {
         Verdict::Refused(e) => Verdict::Refused(e),
         Verdict::Accepted(bus) => {
-            let fit = (a == 49152) & (b == 49152) & fits;
+            let fit = (a == machine::PICTURE_LENGTH) & (b == machine::PICTURE_LENGTH) & fits;
             first_cause(
                 bus,
                 Causes {
@@ -351,7 +359,7 @@ pub fn judge_still(state: &[u8], ram: usize, picture: usize, flash: u32) -> Verd
     match v {
         Verdict::Refused(e) => Verdict::Refused(e),
         Verdict::Accepted(bus) => {
-            let fit = ram_fits(bus, ram) & (picture == 49152);
+            let fit = ram_fits(bus, ram) & (picture == machine::PICTURE_LENGTH);
             first_cause(
                 bus,
                 Causes {
@@ -404,7 +412,7 @@ pub fn fill_timed(
     clocks: u32,
     blocks: u32,
 )
-    requires { ⌜ length (now answer) ≡ 10 ⌝ }
+    requires { ⌜ length (now answer) ≡ timedLength ⌝ }
     ensures { λ _. ⌜ now (answer .exit) ≡ timedAnswer value closed interrupt clocks blocks ⌝ }
 {
     let c = flag(closed);
@@ -428,7 +436,7 @@ pub fn fill_timed(
 
 // The answer of another accepted call with a number to give.
 pub fn fill_number(answer: &mut [u8], n: u32)
-    requires { ⌜ length (now answer) ≡ 5 ⌝ }
+    requires { ⌜ length (now answer) ≡ numberLength ⌝ }
     ensures { λ _. ⌜ now (answer .exit) ≡ numberAnswer n ⌝ }
 {
     bytes::copy(

@@ -11,7 +11,7 @@ use borrow.Author.Tests.{eq-eqb, ne-eqb, leb-true}
 use Rattle.machine.specs.declared.ZXMachine.{ZXMachine}
 use Rattle.machine.specs.declared.ZXMachine.the-variants.{Sinclair48K, Sinclair128K}
 use Rattle.record.specs.declared.Bus.{Bus}
-use Rattle.record.specs.Record.{recordBytes}
+use Rattle.record.specs.Record.{recordBytes, withPaging}
 use Rattle.memory.specs.declared.Paged.{Paged}
 use Rattle.memory.specs.declared.Page.{Page}
 use Rattle.memory.specs.declared.Page.the-variants as page
@@ -26,9 +26,9 @@ use Rattle.answers.specs.declared.Refusal.the-variants.{BadLength, BadNumber}
 use Rattle.answers.specs.declared.Verdict.{Verdict}
 use Rattle.answers.specs.declared.Verdict.the-variants.{Refused, Accepted}
 use Rattle.answers.specs.Refusals.{refusalNumber}
-use Rattle.answers.specs.Answers.{numberAnswer, refusedAnswer}
+use Rattle.answers.specs.Answers.{numberAnswer, refusedAnswer, numberLength}
 use Rattle.answers.specs.Ready.{ReadyLoad, ReadyRamPage, ReadyBlock, ReadyStill}
-use Rattle.contracts.specs.Plain.{told, tell, changed, change, withPaging, repaged, repage, part, stillPage}
+use Rattle.contracts.specs.Plain.{told, tell, changed, change, repaged, repage, part, stillPage}
 use Rattle.contracts.specs.Helpers.{helperCall}
 
 module _ (v j : Verdict) (judged : v ≡ j) where
@@ -69,16 +69,16 @@ module _ (v j : Verdict) (judged : v ≡ j) where
 
 -- ---- the helpers
 module _ (h : Helped) (answer : List ℕ) where
-  pub help-number : (left : List ℕ) (n : ℕ) → length answer ≡ 5 → h ≡ helped.Number n → left ≡ numberAnswer n → told 0 left ≡ helperCall h answer
+  pub help-number : (left : List ℕ) (n : ℕ) → length answer ≡ numberLength → h ≡ helped.Number n → left ≡ numberAnswer n → told 0 left ≡ helperCall h answer
   unfolding helperCall
   help-number left n l p q = rw (eq-eqb (length answer) 5 l, p, q)
 
-  pub help-refused : (left : List ℕ) (r : ℕ) → length answer ≡ 5 → h ≡ helped.OutOfRange
+  pub help-refused : (left : List ℕ) (r : ℕ) → length answer ≡ numberLength → h ≡ helped.OutOfRange
       → (r ≡ refusalNumber BadNumber) × (left ≡ refusedAnswer 5 (refusalNumber BadNumber) answer) → told r left ≡ helperCall h answer
   unfolding helperCall
   help-refused left r l p q = rw (eq-eqb (length answer) 5 l, p, q .0, q .1)
 
-  pub help-alone : (r : ℕ) → (length answer ≡ 5 → ⊥) → r ≡ refusalNumber BadLength → told r answer ≡ helperCall h answer
+  pub help-alone : (r : ℕ) → (length answer ≡ numberLength → ⊥) → r ≡ refusalNumber BadLength → told r answer ≡ helperCall h answer
   unfolding helperCall
   help-alone r n q = rw (ne-eqb (length answer) 5 n, q)
 

@@ -16,7 +16,7 @@ use Rattle.machine.specs.Numbers.{specsOf}
 use Rattle.machine.specs.Timing.{delay}
 use Rattle.machine.specs.Contended.{portContended}
 use Rattle.record.specs.declared.Bus.{Bus}
-use Rattle.record.specs.Record.{machineNumber, machineOf, recordBytes, recordOf}
+use Rattle.record.specs.Record.{machineNumber, machineOf, recordBytes, recordOf, withPaging, withPassed}
 use Rattle.memory.specs.declared.Page.{Page}
 use Rattle.memory.specs.declared.Page.the-variants as page
 use Rattle.memory.specs.declared.Paged.{Paged}
@@ -43,7 +43,7 @@ use Rattle.answers.specs.Ready.{OnRecord}
 use Rattle.answers.proofs.Order.{read-ordered, block-ordered}
 use Rattle.answers.proofs.Accepted.{ready-wait, ready-port, ready-state, ready-told, ready-read, ready-ram-page, ready-block}
 use Rattle.contracts.specs.Timed.{Lent, lentWorld, timed, judgeWaitOf, judgePortOf, waitInternal, waitAt, readIo, writeIo}
-use Rattle.contracts.specs.Plain.{told, tell, change, repage, withPaging, withPassed, readInternal, write7ffdCall, resetFrames, part, ramPagePart, blockPart, ramPageTold, blockTold}
+use Rattle.contracts.specs.Plain.{told, tell, change, repage, readInternal, write7ffdCall, resetFrames, part, ramPagePart, blockPart, ramPageTold, blockTold}
 use Rattle.contracts.specs.Map.{numberIn, codeIn, Named, MapOf, counted, mapped, Alike, renews, Quiet, waited, waitedAt, readPort, wrotePort, wrote7ffd, reset, AllQuiet, last}
 use Rattle.contracts.proofs.Parts.{number-back, told-bus, start-small}
 

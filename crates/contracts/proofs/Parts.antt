@@ -14,6 +14,7 @@ use Rattle.laws.proofs.Words.{long-back}
 use Rattle.machine.specs.declared.ZXMachine.{ZXMachine}
 use Rattle.machine.specs.declared.ZXMachine.the-variants.{Sinclair48K, Sinclair128K}
 use Rattle.machine.specs.Numbers.{specsOf}
+use Rattle.machine.specs.Limits.{pictureLength, pageLength}
 use Rattle.record.specs.declared.Bus.{Bus}
 use Rattle.record.specs.Record.{recordOf}
 use Rattle.memory.specs.declared.Page.{Page}
@@ -26,7 +27,7 @@ use Rattle.bus.specs.Time.{showsA}
 use Rattle.answers.specs.declared.Verdict.{Verdict}
 use Rattle.answers.specs.declared.Verdict.the-variants.{Refused, Accepted}
 use Rattle.answers.specs.Judges.{numberFits, judgeRamPage, judgeBlock, judgeShown}
-use Rattle.answers.specs.Answers.{numberAnswer}
+use Rattle.answers.specs.Answers.{numberAnswer, numberLength}
 use Rattle.answers.proofs.Accepted.{ready-ram-page, ready-block, ready-shown}
 use Rattle.contracts.specs.Map.{numberIn}
 use Rattle.contracts.specs.Plain.{tell, part, ramPagePart, blockPart, shownPart, ramPageTold, blockTold, shownTold}
@@ -55,7 +56,7 @@ start-small Sinclair128K (page.Ram p) h = omega arith
 -- a page by its number told, of a ROM and a RAM of the machine's lengths
 page-told : (m : ZXMachine) (p : Page) (rom ram : List ℕ) → length rom ≡ specsOf m .rom → length ram ≡ specsOf m .ram
     → Holds p (specsOf m .rom) (specsOf m .ram)
-    → (pagePart p rom ram ≡ take 16384 (drop (numberIn (numberAnswer (partStart m p))) (rom ++ ram))) × (length (pagePart p rom ram) ≡ 16384)
+    → (pagePart p rom ram ≡ take pageLength (drop (numberIn (numberAnswer (partStart m p))) (rom ++ ram))) × (length (pagePart p rom ram) ≡ pageLength)
 page-told m p rom ram r n h =
     let f : Holds p (length rom) (length ram) = rw (r, n) h in
     (rw (number-back (partStart m p) (start-small m p h)) (sym (part-found m p rom ram r f)), length-part p rom ram f)
@@ -76,8 +77,8 @@ module _ (state ram answer : List ℕ) (number : ℕ) where
   ram-page-verdict fits = judgeRamPage state (length ram) number fits
 
   ram-page-told : (bus : Bus) → ram-page-verdict (numberFits (length answer)) ≡ Accepted bus → (rom : List ℕ) → length rom ≡ specsOf (recordOf state .machine) .rom
-      → (ramPagePart state ram number ≡ take 16384 (drop (numberIn (ramPageTold state ram number answer .answer)) (rom ++ ram)))
-      × (length (ramPagePart state ram number) ≡ 16384)
+      → (ramPagePart state ram number ≡ take pageLength (drop (numberIn (ramPageTold state ram number answer .answer)) (rom ++ ram)))
+      × (length (ramPagePart state ram number) ≡ pageLength)
   unfolding ramPageTold ramPagePart
   ram-page-told bus p rom r =
       let k = ready-ram-page state bus (length ram) number (numberFits (length answer)) p in
@@ -87,17 +88,17 @@ module _ (state ram answer : List ℕ) (number : ℕ) where
 
   -- told: whatever ROM of the machine's length C counts before RAM, the bytes from the number on are the page
   pub ram-page-found : ramPageTold state ram number answer .code ≡ 0 → (rom : List ℕ) → length rom ≡ specsOf (recordOf state .machine) .rom
-      → (ramPagePart state ram number ≡ take 16384 (drop (numberIn (ramPageTold state ram number answer .answer)) (rom ++ ram)))
-      × (length (ramPagePart state ram number) ≡ 16384)
+      → (ramPagePart state ram number ≡ take pageLength (drop (numberIn (ramPageTold state ram number answer .answer)) (rom ++ ram)))
+      × (length (ramPagePart state ram number) ≡ pageLength)
   unfolding ramPageTold
   ram-page-found c rom r = let t = told-bus ram-page-start answer (ram-page-verdict (numberFits (length answer))) c in ram-page-told (t .0) (t .1) rom r
 
   -- not told: the part is empty
-  pub ram-page-empty : length answer ≡ 5 → (ramPageTold state ram number answer .code ≡ 0 → ⊥) → ramPagePart state ram number ≡ []
+  pub ram-page-empty : length answer ≡ numberLength → (ramPageTold state ram number answer .code ≡ 0 → ⊥) → ramPagePart state ram number ≡ []
   unfolding ramPageTold ramPagePart
   ram-page-empty l n =
       none-handed ram-page-start (λ bus. ramPage number ram) answer (ram-page-verdict true) (ram-page-verdict (numberFits (length answer)))
-      (ap ram-page-verdict (sym (eq-eqb (length answer) 5 l))) n
+      (ap ram-page-verdict (sym (eq-eqb (length answer) numberLength l))) n
 
 -- ---- block
 module _ (state rom ram answer : List ℕ) (number : ℕ) where
@@ -108,8 +109,8 @@ module _ (state rom ram answer : List ℕ) (number : ℕ) where
   block-verdict fits = judgeBlock state (length rom) (length ram) number fits
 
   block-told : (bus : Bus) → block-verdict (numberFits (length answer)) ≡ Accepted bus
-      → (blockPart state rom ram number ≡ take 16384 (drop (numberIn (blockTold state rom ram number answer .answer)) (rom ++ ram)))
-      × (length (blockPart state rom ram number) ≡ 16384)
+      → (blockPart state rom ram number ≡ take pageLength (drop (numberIn (blockTold state rom ram number answer .answer)) (rom ++ ram)))
+      × (length (blockPart state rom ram number) ≡ pageLength)
   unfolding blockTold blockPart
   block-told bus p =
       let k = ready-block state bus (length rom) (length ram) number (numberFits (length answer)) p in
@@ -118,42 +119,42 @@ module _ (state rom ram answer : List ℕ) (number : ℕ) where
 
   -- told: the bytes from the number on, of the lent ROM with the lent RAM behind it, are the block's 16 KiB
   pub block-found : blockTold state rom ram number answer .code ≡ 0
-      → (blockPart state rom ram number ≡ take 16384 (drop (numberIn (blockTold state rom ram number answer .answer)) (rom ++ ram)))
-      × (length (blockPart state rom ram number) ≡ 16384)
+      → (blockPart state rom ram number ≡ take pageLength (drop (numberIn (blockTold state rom ram number answer .answer)) (rom ++ ram)))
+      × (length (blockPart state rom ram number) ≡ pageLength)
   unfolding blockTold
   block-found c = let t = told-bus block-start answer (block-verdict (numberFits (length answer))) c in block-told (t .0) (t .1)
 
   -- not told: the part is empty
-  pub block-empty : length answer ≡ 5 → (blockTold state rom ram number answer .code ≡ 0 → ⊥) → blockPart state rom ram number ≡ []
+  pub block-empty : length answer ≡ numberLength → (blockTold state rom ram number answer .code ≡ 0 → ⊥) → blockPart state rom ram number ≡ []
   unfolding blockTold blockPart
   block-empty l n =
       none-handed block-start (λ bus. pagePart (pageAt (bus .machine) (bus .paging) number) rom ram) answer (block-verdict true)
-      (block-verdict (numberFits (length answer))) (ap block-verdict (sym (eq-eqb (length answer) 5 l))) n
+      (block-verdict (numberFits (length answer))) (ap block-verdict (sym (eq-eqb (length answer) numberLength l))) n
 
 -- ---- shown picture
 module _ (state a b answer : List ℕ) where
   abbrev shown-start : Bus → ℕ
-  shown-start bus = cond (showsA (bus .phase)) 0 49152
+  shown-start bus = cond (showsA (bus .phase)) 0 pictureLength
 
   abbrev shown-verdict : Bool → Verdict
   shown-verdict fits = judgeShown state (length a) (length b) fits
 
   shown-told : (bus : Bus) → shown-verdict (numberFits (length answer)) ≡ Accepted bus
-      → (shownPart state a b ≡ take 49152 (drop (numberIn (shownTold state a b answer .answer)) (a ++ b))) × (length (shownPart state a b) ≡ 49152)
+      → (shownPart state a b ≡ take pictureLength (drop (numberIn (shownTold state a b answer .answer)) (a ++ b))) × (length (shownPart state a b) ≡ pictureLength)
   unfolding shownTold shownPart
   shown-told bus p =
       let k = ready-shown state bus (length a) (length b) (numberFits (length answer)) p in
-      rw (rw (k .answerFits) at p, p) (picture-told (showsA (bus .phase)) 49152 a b (omega arith) (k .aIs) (k .bIs))
+      rw (rw (k .answerFits) at p, p) (picture-told (showsA (bus .phase)) pictureLength a b (omega arith) (k .aIs) (k .bIs))
 
   -- told: the bytes from the number on, of picture A with B behind it, are the shown picture
   pub shown-found : shownTold state a b answer .code ≡ 0
-      → (shownPart state a b ≡ take 49152 (drop (numberIn (shownTold state a b answer .answer)) (a ++ b))) × (length (shownPart state a b) ≡ 49152)
+      → (shownPart state a b ≡ take pictureLength (drop (numberIn (shownTold state a b answer .answer)) (a ++ b))) × (length (shownPart state a b) ≡ pictureLength)
   unfolding shownTold
   shown-found c = let t = told-bus shown-start answer (shown-verdict (numberFits (length answer))) c in shown-told (t .0) (t .1)
 
   -- not told: the part is empty
-  pub shown-empty : length answer ≡ 5 → (shownTold state a b answer .code ≡ 0 → ⊥) → shownPart state a b ≡ []
+  pub shown-empty : length answer ≡ numberLength → (shownTold state a b answer .code ≡ 0 → ⊥) → shownPart state a b ≡ []
   unfolding shownTold shownPart
   shown-empty l n =
       none-handed shown-start (λ bus. cond (showsA (bus .phase)) a b) answer (shown-verdict true) (shown-verdict (numberFits (length answer)))
-      (ap shown-verdict (sym (eq-eqb (length answer) 5 l))) n
+      (ap shown-verdict (sym (eq-eqb (length answer) numberLength l))) n

@@ -8,8 +8,9 @@ use lib.ListN.{length}
 use Rattle.machine.specs.declared.ZXMachine.{ZXMachine}
 use Rattle.machine.specs.declared.ZXMachine.the-variants.{Sinclair48K, Sinclair128K}
 use Rattle.machine.specs.Timing.{interrupt}
+use Rattle.machine.specs.Limits.{pictureLength}
 use Rattle.record.specs.declared.Bus.{Bus}
-use Rattle.record.specs.Record.{recordBytes, flagByte}
+use Rattle.record.specs.Record.{recordBytes, flagByte, withPaging, withPassed}
 use Rattle.memory.specs.declared.Page.the-variants as page
 use Rattle.memory.specs.Paging.{pageAt, write7ffd, pagedCode, pagingAfter}
 use Rattle.memory.specs.Memory.{byteAt, poked, ramPage, pagePart, partStart, loaded}
@@ -19,7 +20,7 @@ use Rattle.answers.specs.declared.Verdict.{Verdict}
 use Rattle.answers.specs.declared.Verdict.the-variants.{Refused, Accepted}
 use Rattle.answers.specs.Refusals.{refusalNumber}
 use Rattle.answers.specs.Judges.{judgeState, judgeTold, judgeRead, judgeWrite, judgeLoad, numberFits, judgeRamPage, judgeBlock, judgeShown, judgeStill}
-use Rattle.answers.specs.Answers.{numberAnswer, refusedAnswer}
+use Rattle.answers.specs.Answers.{numberAnswer, refusedAnswer, numberLength}
 
 -- "Every call .. returns its refusal number, 0 if accepted."
 abbrev pub codeOf : Verdict → ℕ
@@ -35,7 +36,7 @@ abbrev pub told : ℕ → List ℕ → Told
 told code answer = record { code = code; answer = answer }
 
 abbrev pub tell : (Bus → ℕ) → List ℕ → Verdict → Told
-tell number answer (Refused e) = told (refusalNumber e) (refusedAnswer 5 (refusalNumber e) answer)
+tell number answer (Refused e) = told (refusalNumber e) (refusedAnswer numberLength (refusalNumber e) answer)
 tell number answer (Accepted bus) = told 0 (numberAnswer (number bus))
 
 -- what a call that changes one lent slice returns, and that slice
@@ -61,37 +62,6 @@ unfoldable pub writeInternal : List ℕ → List ℕ → ℕ → ℕ → Changed
 writeInternal state ram addr value =
     change (λ bus. poked (bus .machine) (bus .paging) ram addr value) ram (judgeWrite state (length ram))
 
--- the record with another 7FFD byte, and with no passed frames
-abbrev pub withPaging : ℕ → Bus → Bus
-withPaging v bus =
-    record {
-      machine = bus .machine;
-      clock = bus .clock;
-      passed = bus .passed;
-      phase = bus .phase;
-      painted = bus .painted;
-      paging = v;
-      reported = bus .reported;
-      colour = bus .colour;
-      blocked = bus .blocked;
-      pairs = bus .pairs;
-    }
-
-abbrev pub withPassed : ℕ → Bus → Bus
-withPassed n bus =
-    record {
-      machine = bus .machine;
-      clock = bus .clock;
-      passed = n;
-      phase = bus .phase;
-      painted = bus .painted;
-      paging = bus .paging;
-      reported = bus .reported;
-      colour = bus .colour;
-      blocked = bus .blocked;
-      pairs = bus .pairs;
-    }
-
 -- what a 7FFD write leaves: the number returned, the state record and the answer
 pub record Repaged : Type 0 where
   pub code : ℕ
@@ -102,7 +72,7 @@ abbrev pub repaged : ℕ → List ℕ → List ℕ → Repaged
 repaged code state answer = record { code = code; state = state; answer = answer }
 
 abbrev pub repage : ℕ → List ℕ → List ℕ → Verdict → Repaged
-repage value state answer (Refused e) = repaged (refusalNumber e) state (refusedAnswer 5 (refusalNumber e) answer)
+repage value state answer (Refused e) = repaged (refusalNumber e) state (refusedAnswer numberLength (refusalNumber e) answer)
 repage value state answer (Accepted bus) =
     let p = write7ffd (bus .machine) (bus .paging) value in
     repaged 0 (recordBytes (withPaging (pagingAfter p (bus .paging)) bus)) (numberAnswer (pagedCode p))
@@ -170,4 +140,4 @@ blockTold state rom ram block answer =
 
 unfoldable pub shownTold : List ℕ → List ℕ → List ℕ → List ℕ → Told
 shownTold state a b answer =
-    tell (λ bus. cond (showsA (bus .phase)) 0 49152) answer (judgeShown state (length a) (length b) (numberFits (length answer)))
+    tell (λ bus. cond (showsA (bus .phase)) 0 pictureLength) answer (judgeShown state (length a) (length b) (numberFits (length answer)))

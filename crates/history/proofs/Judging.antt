@@ -1,7 +1,7 @@
 -- How each call is judged, as one table: by the state record, the lengths of what is lent, and the call's own numbers. From it: what a call
 -- answers depends on the core alone, and a call that is accepted was lent the record of the machine.
 -- Assumes nothing.
-use Prim.Native.Nat.{ℕ, _≤_, _<_}
+use Prim.Native.Nat.{ℕ, _≤_}
 use mathlib.Core.Bool.{Bool, true, false, cond, not, _&&_, false≢true}
 use mathlib.Core.List.{List, [], _∷_}
 use mathlib.Core.Path.{_≡_, refl, sym, _∙_, ap}
@@ -15,7 +15,7 @@ use Rattle.machine.specs.Numbers.{specsOf}
 use Rattle.record.specs.declared.Bus.{Bus}
 use Rattle.record.specs.declared.Held.{Held}
 use Rattle.record.specs.declared.Held.the-variants as held
-use Rattle.record.specs.Record.{recordBytes, recordLength, machineOf, heldBy, flagByte, startRecord}
+use Rattle.record.specs.Record.{recordBytes, recordLength, machineOf, heldBy, flagByte, startRecord, withPassed, lastFrame, HasRoom}
 use Rattle.record.specs.Sound.{Sound}
 use Rattle.record.proofs.Soundness.{facts-sound}
 use Rattle.record.proofs.Round.{held-encode}
@@ -40,7 +40,7 @@ use Rattle.answers.specs.Refusals.{refusalNumber, Cause, judged, judgedHeld, ju
 use Rattle.answers.specs.Judges as judges
 use Rattle.answers.specs.Judges.{numberFits, lentFit, judgeWait, judgePort, judgeState, judgeTold, judgeRead, judgeWrite, judgeLoad, judgeRamPage, judgeBlock, judgeShown, judgeStill}
 use Rattle.contracts.specs.Timed.{Lent, lentBy, timed, Started, start, waitInternal, waitAt, readIo, writeIo}
-use Rattle.contracts.specs.Plain.{Told, codeOf, tell, change, repage, withPassed, stillPage, readInternal, writeInternal, write7ffdCall, read7ffd, intActive, framesCount, resetFrames, loadPage, stillPicture, ramPageTold, blockTold, shownTold}
+use Rattle.contracts.specs.Plain.{Told, codeOf, tell, change, repage, stillPage, readInternal, writeInternal, write7ffdCall, read7ffd, intActive, framesCount, resetFrames, loadPage, stillPicture, ramPageTold, blockTold, shownTold}
 use Rattle.contracts.specs.Helpers.{help, helperCall, colorHelped, bitmapLineAddr, bitmapLineRel, bitmapColRel, attrRowRel, attrColRel, colorFromBits}
 use Rattle.history.specs.Calls.{Loan, lend, Lens, lentOf, Kind, startAgain, plain, mreq, noMreq, portIn, portOut, readByte, writeByte, writePaging, readPaging, askInterrupt, askFrames, resetPassed, loadRam, askPage, askBlock, askShown, still, helpLineAddr, helpLine, helpColumn, helpAttrRow, helpAttrColumn, helpColor, performed, called}
 use Rattle.history.specs.Demand.{blind}
@@ -255,31 +255,31 @@ module _ (m : ZXMachine) (w : World) (sound : SoundWorld m w) (n : Loan) where
   bytes = recordBytes (busOf m w)
 
   -- lent whole, the record is the machine's
-  held-whole : length (lend n bytes) ≡ 23 → heldBy (lend n bytes) ≡ held.Sound (busOf m w)
+  held-whole : length (lend n bytes) ≡ recordLength → heldBy (lend n bytes) ≡ held.Sound (busOf m w)
   held-whole h = ap heldBy (loan-whole n bytes h) ∙ held-encode (busOf m w) (facts-sound (busOf m w) sound)
 
   -- lent otherwise, it has the wrong length
-  held-wrong : (length (lend n bytes) ≡ 23 → ⊥) → heldBy (lend n bytes) ≡ held.WrongLength
+  held-wrong : (length (lend n bytes) ≡ recordLength → ⊥) → heldBy (lend n bytes) ≡ held.WrongLength
   unfolding heldBy
-  held-wrong h = rw (ne-eqb (length (lend n bytes)) 23 h)
+  held-wrong h = rw (ne-eqb (length (lend n bytes)) recordLength h)
 
   -- THE CODE OF A JUDGED CALL: 2 for a record that is not lent whole, else the first condition that holds.
   pub judge-code : (causes : Bus → List Cause)
-      → codeOf (judge (lend n bytes) causes) ≡ cond (eqb (length (lend n bytes)) 23) (firstOf (causes (busOf m w))) 2
+      → codeOf (judge (lend n bytes) causes) ≡ cond (eqb (length (lend n bytes)) recordLength) (firstOf (causes (busOf m w))) 2
   judge-code causes =
-      by-eq (λ (k : ℕ). codeOf (judge (lend n bytes) causes) ≡ k) (length (lend n bytes)) 23
+      by-eq (λ (k : ℕ). codeOf (judge (lend n bytes) causes) ≡ k) (length (lend n bytes)) recordLength
       (λ h. ap (λ (x : Held). codeOf (judgedHeld x causes)) (held-whole h) ∙ judged-code (causes (busOf m w)) (busOf m w))
       (λ h. ap (λ (x : Held). codeOf (judgedHeld x causes)) (held-wrong h))
 
   -- A call that is accepted was lent the record whole, none of its conditions holds, and it goes by the machine's own record.
   pub record Accepting (causes : Bus → List Cause) : Type 0 where
-    pub whole : length (lend n bytes) ≡ 23
+    pub whole : length (lend n bytes) ≡ recordLength
     pub none : firstOf (causes (busOf m w)) ≡ 0
     pub verdict : judge (lend n bytes) causes ≡ Accepted (busOf m w)
 
   pub accepting : (causes : Bus → List Cause) → codeOf (judge (lend n bytes) causes) ≡ 0 → Accepting causes
   accepting causes e =
-      by-eq (λ (k : ℕ). k ≡ 0 → Accepting causes) (length (lend n bytes)) 23
+      by-eq (λ (k : ℕ). k ≡ 0 → Accepting causes) (length (lend n bytes)) recordLength
       (λ h none.
       record {
         whole = h;
@@ -335,7 +335,7 @@ module _ (m : ZXMachine) (w : World) (sound : SoundWorld m w) (sized : Sized m w
       ∙ ap (λ (k : ℕ). startCode machine k (sizesOf (lentOf n (lentBy m (blind (w .core)))))) same-record
   same-by (judging causes) =
       judge-code m w sound (n .state) (λ bus. causes (sizesOf (lentOf n (lentBy m w))) (bus .machine) (bus .passed))
-      ∙ (λ i. cond (eqb (same-record i) 23) (firstOf (causes (same-sizes i) m (w .core .passed))) 2)
+      ∙ (λ i. cond (eqb (same-record i) recordLength) (firstOf (causes (same-sizes i) m (w .core .passed))) 2)
       ∙ sym (judge-code m (blind (w .core)) (blind-sound m w sound) (n .state) (λ bus. causes (sizesOf (lentOf n (lentBy m (blind (w .core))))) (bus .machine) (bus .passed)))
   same-by (helping code) = refl
 
@@ -349,7 +349,7 @@ module _ (m : ZXMachine) (w : World) (sound : SoundWorld m w) (sized : Sized m w
 
 module _ (m : ZXMachine) (w : World) (sound : SoundWorld m w) (sized : Sized m w) (n : Lens) where
   -- A wait of at most 65,535 clocks that is lent its slices whole is accepted while passed frames have room.
-  pub wait-accepted : (clocks : ℕ) (answer : List ℕ) → clocks ≤ 65535 → length answer ≡ 10 → w .core .passed < 4294967295 → LentWhole n (lentBy m w)
+  pub wait-accepted : (clocks : ℕ) (answer : List ℕ) → clocks ≤ 65535 → length answer ≡ 10 → HasRoom (w .core .passed) → LentWhole n (lentBy m w)
       → called (record { lens = n; kind = plain clocks answer }) (lentBy m w) .code ≡ 0
   unfolding called wayOf firstOf
   wait-accepted clocks answer few size room whole =
@@ -357,14 +357,14 @@ module _ (m : ZXMachine) (w : World) (sound : SoundWorld m w) (sized : Sized m w
       code-is (plain clocks answer) l
       ∙ judge-code m w sound (n .state) (λ bus. waitCauses clocks answer (sizesOf l) (bus .machine) (bus .passed))
       ∙ rw (
-        eq-eqb (length (l .state)) 23 (whole .state),
+        eq-eqb (length (l .state)) recordLength (whole .state),
         eq-eqb (length (l .ram)) (specsOf m .ram) (whole .ram ∙ sized .ram),
         eq-eqb (length (l .a)) 49152 (whole .a ∙ sized .a),
         eq-eqb (length (l .b)) 49152 (whole .b ∙ sized .b),
         eq-eqb (length (l .border)) 76800 (whole .border ∙ sized .pixels),
         eq-eqb (length answer) 10 size,
         le-ltb 65535 clocks few,
-        ne-eqb (w .core .passed) 4294967295 (λ e. omega arith),
+        ne-eqb (w .core .passed) lastFrame (λ e. omega arith),
       )
 
   -- One that is lent RAM of another length, shorter or longer, gets refusal 2, whatever else it is lent.
@@ -375,7 +375,7 @@ module _ (m : ZXMachine) (w : World) (sound : SoundWorld m w) (sized : Sized m w
       let l = lentOf n (lentBy m w) in
       code-is (plain clocks answer) l
       ∙ judge-code m w sound (n .state) (λ bus. waitCauses clocks answer (sizesOf l) (bus .machine) (bus .passed))
-      ∙ rw (ne-eqb (length (l .ram)) (specsOf m .ram) (λ e. wrong (e ∙ sym (sized .ram)))) (cond-same (eqb (length (l .state)) 23) 2)
+      ∙ rw (ne-eqb (length (l .ram)) (specsOf m .ram) (λ e. wrong (e ∙ sym (sized .ram)))) (cond-same (eqb (length (l .state)) recordLength) 2)
 
 -- ---- refusal 3
 
@@ -450,7 +450,7 @@ module _ (m : ZXMachine) (w : World) (sound : SoundWorld m w) (n : Lens) where
       (startLengths (machineOf machine) (length (lend (n .state) (recordBytes (busOf m w)))) (sizesOf (lentOf n (lentBy m w)))) e
   never-by (judging causes) h e =
       let cs = causes (sizesOf (lentOf n (lentBy m w))) m (w .core .passed) in
-      by-bool (λ (k : ℕ). k ≡ 3 → ⊥) (eqb (length (lend (n .state) (recordBytes (busOf m w)))) 23) (λ f. clean-first cs (h _ m (w .core .passed))) (λ f z. omega arith)
+      by-bool (λ (k : ℕ). k ≡ 3 → ⊥) (eqb (length (lend (n .state) (recordBytes (busOf m w)))) recordLength) (λ f. clean-first cs (h _ m (w .core .passed))) (λ f z. omega arith)
       (sym (judge-code m w sound (n .state) (λ bus. causes (sizesOf (lentOf n (lentBy m w))) (bus .machine) (bus .passed))) ∙ e)
   never-by (helping code) h e = h e
 

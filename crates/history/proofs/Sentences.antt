@@ -15,7 +15,7 @@ use Rattle.machine.specs.declared.ZXMachine.{ZXMachine}
 use Rattle.machine.specs.Numbers.{specsOf}
 use Rattle.machine.specs.Timing.{blockPosition}
 use Rattle.record.specs.declared.Held.the-variants as held
-use Rattle.record.specs.Record.{heldBy}
+use Rattle.record.specs.Record.{heldBy, HasRoom}
 use Rattle.record.proofs.Soundness.{facts-sound}
 use Rattle.record.proofs.Round.{held-encode}
 use Rattle.paint.proofs.Painting.{paint-out}
@@ -159,7 +159,7 @@ module _ (m : ZXMachine) (cs : List Call) (typed : AllTyped cs) (first : NoSecon
   -- Good input is accepted: a wait of at most 65,535 clocks, lent its slices whole, while passed frames have room. So a history can go on
   -- and complete frame after frame.
   pub good-wait : (n : Lens) (clocks : ℕ) (answer : List ℕ) → LentWhole n (bytesAfter m cs .slices) → clocks ≤ 65535 → length answer ≡ 10
-      → history m cs .world .core .passed < 4294967295
+      → HasRoom (history m cs .world .core .passed)
       → called (record { lens = n; kind = plain clocks answer }) (bytesAfter m cs .slices) .code ≡ 0
   good-wait n clocks answer whole few size room =
       let i = history-stands m cs typed first in

@@ -20,7 +20,7 @@ use Rattle.machine.specs.Numbers.{specsOf}
 use Rattle.machine.specs.Timing.{interrupt}
 use Rattle.record.specs.declared.Bus.{Bus}
 use Rattle.record.specs.Words.{byteAt, wordAt, longAt}
-use Rattle.record.specs.Record.{recordBytes, machineOf}
+use Rattle.record.specs.Record.{recordBytes, machineOf, withPaging, withPassed, recordLength, lastFrame, noRoom, HasRoom}
 use Rattle.memory.specs.declared.Place.{Place}
 use Rattle.memory.specs.declared.Place.the-variants as place
 use Rattle.memory.specs.declared.Paged.{Paged}
@@ -44,7 +44,7 @@ use Rattle.answers.specs.declared.Verdict.the-variants.{Refused, Accepted}
 use Rattle.answers.specs.Judges.{pictureFits, borderFits, timedFits, judgeWait, judgePort, judgeState, judgeTold, judgeWrite, judgeLoad}
 use Rattle.answers.specs.Answers.{timedAnswer}
 use Rattle.contracts.specs.Timed.{Lent, lentBy, Outcome, timed, timedEnd, noValue, Started, start, waitInternal, waitAt, readIo, writeIo}
-use Rattle.contracts.specs.Plain.{codeOf, change, repage, withPaging, withPassed, writeInternal, write7ffdCall, resetFrames, loadPage}
+use Rattle.contracts.specs.Plain.{codeOf, change, repage, writeInternal, write7ffdCall, resetFrames, loadPage}
 use Rattle.history.specs.Calls.{lend, Lens, lentOf, handedBack, Kind, startAgain, plain, mreq, noMreq, portIn, portOut, readByte, writeByte, writePaging, readPaging, askInterrupt, askFrames, resetPassed, loadRam, askPage, askBlock, askShown, still, helpLineAddr, helpLine, helpColumn, helpAttrRow, helpAttrColumn, helpColor, Left, ofOutcome, withRam, withState, performed, called, reportedClocks, reportedBlocks, reportedClosed, Typed, NoStart, PortTakes}
 use Rattle.bus.specs.Pokes.{poking}
 use Rattle.history.specs.Demand.{opsOf, blind, callOps}
@@ -156,7 +156,7 @@ module _ (m : ZXMachine) (w : World) (sound : SoundWorld m w) (sized : Sized m w
   none-tied r s c b f = record { slices = s; clocks = c; blocks = b; closed = f; sound = sound; sized = sized; small = tt }
 
   -- ---- timed calls
-  timed-kept : (f : Part) → Timed m f → w .core .passed < 4294967295 → Kept m (f (w .core)) w
+  timed-kept : (f : Part) → Timed m f → HasRoom (w .core .passed) → Kept m (f (w .core)) w
   timed-kept f t room =
       let same = ran-world (f (w .core)) (fresh m w) in
       record {
@@ -194,7 +194,7 @@ module _ (m : ZXMachine) (w : World) (sound : SoundWorld m w) (sized : Sized m w
 
     -- an accepted timed call, lent its five slices whole
     timed-tied : (f : ZXMachine → Part) (value : ZXMachine → Core → ℕ) (answer : List ℕ) (v : Verdict) → v ≡ Accepted (busOf m w) → LentWhole n l
-        → Timed m (f m) → w .core .passed < 4294967295 → Tied m (back n l (ofOutcome (timed f value (lentOf n l) answer v))) (f m (w .core)) w
+        → Timed m (f m) → HasRoom (w .core .passed) → Tied m (back n l (ofOutcome (timed f value (lentOf n l) answer v))) (f m (w .core)) w
     unfolding timed
     timed-tied f value answer v e whole t room =
         let os = f m (w .core) in
@@ -210,7 +210,7 @@ module _ (m : ZXMachine) (w : World) (sound : SoundWorld m w) (sized : Sized m w
         (answered os (value m (w .core)) kept (rw (fresh-blocks os m w) at (call-fits m (f m) t w sound .1)))
 
     -- what it takes to be lent them whole
-    whole-lent : length (lend (n .state) (recordBytes (busOf m w))) ≡ 23 → lentFits (sizesOf (lentOf n l)) m ≡ true → LentWhole n l
+    whole-lent : length (lend (n .state) (recordBytes (busOf m w))) ≡ recordLength → lentFits (sizesOf (lentOf n l)) m ≡ true → LentWhole n l
     whole-lent h e =
         let s = sizesOf (lentOf n l) in
         let fit = each (eqb (s .ram) (specsOf m .ram)) (pictureFits (s .a) ∷ pictureFits (s .b) ∷ borderFits (s .border) ∷ []) e in
@@ -223,13 +223,13 @@ module _ (m : ZXMachine) (w : World) (sound : SoundWorld m w) (sized : Sized m w
         }
 
     -- passed frames have room
-    room-left : eqb (w .core .passed) 4294967295 ≡ false → w .core .passed < 4294967295
-    room-left e = let f = eqb-false (w .core .passed) 4294967295 e in omega (arith, sound .passed)
+    room-left : noRoom (w .core .passed) ≡ false → HasRoom (w .core .passed)
+    room-left e = let f = eqb-false (w .core .passed) lastFrame e in omega (arith, sound .passed)
 
     record TimedFine (v : Verdict) : Type 0 where
       verdict : v ≡ Accepted (busOf m w)
       whole : LentWhole n l
-      room : w .core .passed < 4294967295
+      room : HasRoom (w .core .passed)
 
     -- an accepted wait
     module _ (clocks : ℕ) (answer : List ℕ) (e : codeOf (verdictBy (waitCauses clocks answer) (lentOf n l)) ≡ 0) where

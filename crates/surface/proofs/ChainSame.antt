@@ -8,7 +8,7 @@ use lib.ListN.{length}
 use Rattle.machine.specs.declared.ZXMachine.{ZXMachine}
 use Rattle.machine.specs.Numbers.{specsOf}
 use Rattle.record.specs.declared.Bus.{Bus}
-use Rattle.record.specs.Record.{recordBytes, flagByte, machineOf}
+use Rattle.record.specs.Record.{recordBytes, flagByte, machineOf, withPaging, withPassed}
 use Rattle.record.specs.Sound.{Sound}
 use Rattle.record.proofs.Soundness.{facts-sound}
 use Rattle.record.proofs.Round.{held-encode}
@@ -20,7 +20,6 @@ use Rattle.answers.specs.Judges.{waitCauses, portCauses, toldCauses, judgeTold}
 use Rattle.answers.specs.Order.{Numbered, allCauses}
 use Rattle.answers.proofs.Order.{state-ordered, wait-ordered, port-ordered, told-ordered, read-ordered, write-ordered, load-ordered}
 use Rattle.contracts.specs.Timed.{Lent, Outcome, lentWorld, judgeWaitOf, judgePortOf, start}
-use Rattle.contracts.specs.Plain.{withPassed, withPaging}
 use Rattle.contracts.proofs.Refusals as contracts
 use Rattle.rustzx.specs.Panics.{Run, done, panics}
 use Rattle.rustzx.specs.Controller as rust

@@ -10,7 +10,7 @@ use Rattle.machine.specs.declared.ZXMachine.{ZXMachine}
 use Rattle.machine.specs.Timing.{interrupt}
 use Rattle.record.specs.declared.Bus.{Bus}
 use Rattle.record.specs.Sound.{Sound}
-use Rattle.record.specs.Record.{recordBytes, flagByte}
+use Rattle.record.specs.Record.{recordBytes, flagByte, withPaging, withPassed}
 use Rattle.memory.specs.declared.Place.{Place}
 use Rattle.memory.specs.declared.Place.the-variants.{Rom, Ram}
 use Rattle.memory.specs.declared.Paged.{Paged}
@@ -28,7 +28,7 @@ use Rattle.answers.specs.declared.Verdict.the-variants.{Accepted}
 use Rattle.answers.specs.Judges.{judgeState, judgeTold, judgeRead, judgeWrite, judgeLoad, judgeRamPage, judgeBlock, judgeShown}
 use Rattle.answers.proofs.Accepted.{ready-state, ready-told, ready-read, ready-write, ready-load, ready-ram-page, ready-block, ready-shown}
 use Rattle.contracts.specs.Plain as ulb
-use Rattle.contracts.specs.Plain.{tell, withPaging, withPassed}
+use Rattle.contracts.specs.Plain.{tell}
 use Rattle.rustzx.specs.Controller.{ZXController}
 use Rattle.rustzx.specs.Related.{ourMachine, Related}
 use Rattle.bus.specs.Pokes.{poking, byteWrite, pageLoad, passedReset}
