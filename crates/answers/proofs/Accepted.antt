@@ -1,8 +1,8 @@
 -- What an accepted judgement tells: the record is sound and is the one that the bytes stand for, and every length and number is right.
 -- Assumes nothing.
-use Prim.Native.Nat.{ℕ, _<_, _^_}
+use Prim.Native.Nat.{ℕ, _≤_}
 use mathlib.Core.Path.{_≡_, sym, ap}
-use mathlib.Core.Bool.{true, false, _&&_}
+use mathlib.Core.Bool.{Bool, true, false, _&&_}
 use mathlib.Core.List.{List, [], _∷_}
 use native.Mathlib.Omega.{arith}
 use borrow.Author.Tests.{eqb-true, eqb-false, ltb-false, not-false}
@@ -11,20 +11,22 @@ use lib.ListN.{length}
 use Rattle.laws.proofs.Cases.{and-both}
 use Rattle.laws.proofs.Conjunction.{each}
 use Rattle.machine.specs.Numbers.{specsOf}
+use Rattle.machine.specs.Limits.{pictureLength, borderLength, pageLength, longestWait}
 use Rattle.record.specs.declared.Bus.{Bus}
 use Rattle.record.specs.declared.Held.{Held}
 use Rattle.record.specs.declared.Held.the-variants as held
-use Rattle.record.specs.Record.{recordBytes, heldBy}
+use Rattle.record.specs.Record.{recordBytes, heldBy, lastFrame, noRoom, HasRoom}
 use Rattle.record.proofs.Soundness.{sound-facts}
 use Rattle.record.specs.Words.{Bytes}
 use Rattle.record.proofs.Round.{held-decode, held-sound, held-bytes}
 use Rattle.memory.specs.Paging.{pageExists}
-use Rattle.ports.specs.Devices.{flagsOf}
+use Rattle.ports.specs.Devices.{flagsOf, devicesLength}
 use Rattle.answers.specs.declared.Verdict.the-variants.{Accepted}
 use Rattle.answers.specs.Refusals.{Cause, judgedHeld, judge}
-use Rattle.answers.specs.Judges.{ramFits, romFits, pictureFits, borderFits, timedFits, numberFits, lentFit, judgeWait, judgePort, judgeState, judgeTold, judgeRead, judgeWrite, judgeLoad, judgeRamPage, judgeRamPageTold, judgeBlock, judgeBlockTold, judgeShown, judgeShownTold, judgeStill}
+use Rattle.answers.specs.Judges.{ramFits, romFits, pictureFits, borderFits, timedFits, numberFits, lentFit, judgeWait, judgePort, judgeState, judgeTold, judgeRead, judgeWrite, judgeLoad, judgeRamPage, judgeBlock, judgeShown, judgeStill}
 use Rattle.answers.specs.Order.{NoneHolds}
-use Rattle.answers.specs.Ready.{OnRecord, Fit, ReadyWait, ReadyPort, ReadyTold, ReadyRead, ReadyWrite, ReadyLoad, ReadyRamPage, ReadyRamPageTold, ReadyBlock, ReadyBlockTold, ReadyShown, ReadyShownTold, ReadyStill}
+use Rattle.answers.specs.Ready.{OnRecord, Fit, ReadyWait, ReadyPort, ReadyTold, ReadyRead, ReadyWrite, ReadyLoad, ReadyRamPage, ReadyBlock, ReadyShown, ReadyStill}
+use Rattle.answers.specs.Answers.{timedLength, numberLength}
 use Rattle.answers.proofs.Judging.{never}
 use Rattle.answers.proofs.Order.{accepted-by-none}
 
@@ -54,15 +56,15 @@ fits bus ram a b border answer e =
     let test = each (ramFits bus ram) (pictureFits a ∷ pictureFits b ∷ borderFits border ∷ timedFits answer ∷ []) e in
     record {
       ramIs = eqb-true ram (specsOf (bus .machine) .ram) (test 0);
-      aIs = eqb-true a 49152 (test 1);
-      bIs = eqb-true b 49152 (test 2);
-      borderIs = eqb-true border 76800 (test 3);
-      answerIs = eqb-true answer 10 (test 4);
+      aIs = eqb-true a pictureLength (test 1);
+      bIs = eqb-true b pictureLength (test 2);
+      borderIs = eqb-true border borderLength (test 3);
+      answerIs = eqb-true answer timedLength (test 4);
     }
 
 -- passed frames are not at their last number
-has-room : (bus : Bus) → bus .passed < 2 ^ 32 → eqb (bus .passed) 4294967295 ≡ false → bus .passed < 4294967295
-has-room bus h e = let n = eqb-false (bus .passed) 4294967295 e in omega (arith, h, n)
+has-room : (bus : Bus) → bus .passed ≤ lastFrame → noRoom (bus .passed) ≡ false → HasRoom (bus .passed)
+has-room bus h e = let n = eqb-false (bus .passed) lastFrame e in omega (arith, h, n)
 
 -- ---- every judgement
 module _ (state : List ℕ) (bus : Bus) where
@@ -74,7 +76,7 @@ module _ (state : List ℕ) (bus : Bus) where
       record {
         onRecord = r .0;
         fit = fits bus ram a b border answer (not-false (lentFit bus ram a b border && timedFits answer) (r .1 .0));
-        short = ltb-false 65535 clocks (r .1 .1 .0);
+        short = ltb-false longestWait clocks (r .1 .1 .0);
         room = has-room bus (r .0 .sound .passed) (r .1 .1 .1 .0);
       }
 
@@ -83,11 +85,11 @@ module _ (state : List ℕ) (bus : Bus) where
   unfolding judgePort
   ready-port devices ram a b border answer p =
       let r = accepted state _ bus p in
-      let test = each (eqb (length devices) 35) (lentFit bus ram a b border ∷ timedFits answer ∷ []) (not-false _ (r .1 .0)) in
+      let test = each (eqb (length devices) devicesLength) (lentFit bus ram a b border ∷ timedFits answer ∷ []) (not-false _ (r .1 .0)) in
       record {
         onRecord = r .0;
         fit = fits bus ram a b border answer (and-both (lentFit bus ram a b border) (timedFits answer) (test 1) (test 2));
-        devicesIs = eqb-true (length devices) 35 (test 0);
+        devicesIs = eqb-true (length devices) devicesLength (test 0);
         flags = not-false (flagsOf devices) (r .1 .1 .0);
         room = has-room bus (r .0 .sound .passed) (r .1 .1 .1 .0);
       }
@@ -100,7 +102,7 @@ module _ (state : List ℕ) (bus : Bus) where
   unfolding judgeTold
   ready-told answer p =
       let r = accepted state _ bus p in
-      record { onRecord = r .0; answerIs = eqb-true answer 5 (not-false (numberFits answer) (r .1 .0)) }
+      record { onRecord = r .0; answerIs = eqb-true answer numberLength (not-false (numberFits answer) (r .1 .0)) }
 
   pub ready-read : (rom ram answer : ℕ) → judgeRead state rom ram answer ≡ Accepted bus → ReadyRead state rom ram answer bus
   unfolding judgeRead
@@ -111,7 +113,7 @@ module _ (state : List ℕ) (bus : Bus) where
         onRecord = r .0;
         romIs = eqb-true rom (specsOf (bus .machine) .rom) (test 0);
         ramIs = eqb-true ram (specsOf (bus .machine) .ram) (test 1);
-        answerIs = eqb-true answer 5 (test 2);
+        answerIs = eqb-true answer numberLength (test 2);
       }
 
   pub ready-write : (ram : ℕ) → judgeWrite state ram ≡ Accepted bus → ReadyWrite state ram bus
@@ -124,81 +126,45 @@ module _ (state : List ℕ) (bus : Bus) where
   unfolding judgeLoad
   ready-load ram bytes page p =
       let r = accepted state _ bus p in
-      let test = each (ramFits bus ram) (eqb bytes 16384 ∷ []) (not-false _ (r .1 .0)) in
+      let test = each (ramFits bus ram) (eqb bytes pageLength ∷ []) (not-false _ (r .1 .0)) in
       record {
         onRecord = r .0;
         ramIs = eqb-true ram (specsOf (bus .machine) .ram) (test 0);
-        bytesIs = eqb-true bytes 16384 (test 1);
+        bytesIs = eqb-true bytes pageLength (test 1);
         exists = not-false (pageExists (bus .machine) page) (r .1 .1 .0);
       }
 
-  pub ready-ram-page : (ram page : ℕ) → judgeRamPage state ram page ≡ Accepted bus → ReadyRamPage state ram page bus
+  pub ready-ram-page : (ram page : ℕ) (fits : Bool) → judgeRamPage state ram page fits ≡ Accepted bus → ReadyRamPage state ram page fits bus
   unfolding judgeRamPage
-  ready-ram-page ram page p =
+  ready-ram-page ram page fits p =
       let r = accepted state _ bus p in
+      let test = each (ramFits bus ram) (fits ∷ []) (not-false _ (r .1 .0)) in
       record {
         onRecord = r .0;
-        ramIs = eqb-true ram (specsOf (bus .machine) .ram) (not-false (ramFits bus ram) (r .1 .0));
+        ramIs = eqb-true ram (specsOf (bus .machine) .ram) (test 0);
+        answerFits = test 1;
         exists = not-false (pageExists (bus .machine) page) (r .1 .1 .0);
       }
 
-  pub ready-ram-page-told : (ram page answer : ℕ) → judgeRamPageTold state ram page answer ≡ Accepted bus → ReadyRamPageTold state ram page answer bus
-  unfolding judgeRamPageTold
-  ready-ram-page-told ram page answer p =
-      let r = accepted state _ bus p in
-      let test = each (ramFits bus ram) (numberFits answer ∷ []) (not-false _ (r .1 .0)) in
-      record {
-        part = record {
-          onRecord = r .0;
-          ramIs = eqb-true ram (specsOf (bus .machine) .ram) (test 0);
-          exists = not-false (pageExists (bus .machine) page) (r .1 .1 .0);
-        };
-        answerIs = eqb-true answer 5 (test 1);
-      }
-
-  pub ready-block : (rom ram block : ℕ) → judgeBlock state rom ram block ≡ Accepted bus → ReadyBlock state rom ram block bus
+  pub ready-block : (rom ram block : ℕ) (fits : Bool) → judgeBlock state rom ram block fits ≡ Accepted bus → ReadyBlock state rom ram block fits bus
   unfolding judgeBlock
-  ready-block rom ram block p =
+  ready-block rom ram block fits p =
       let r = accepted state _ bus p in
-      let test = each (romFits bus rom) (ramFits bus ram ∷ []) (not-false _ (r .1 .0)) in
+      let test = each (romFits bus rom) (ramFits bus ram ∷ fits ∷ []) (not-false _ (r .1 .0)) in
       record {
         onRecord = r .0;
         romIs = eqb-true rom (specsOf (bus .machine) .rom) (test 0);
         ramIs = eqb-true ram (specsOf (bus .machine) .ram) (test 1);
+        answerFits = test 2;
         blockIn = ltb-false 3 block (r .1 .1 .0);
       }
 
-  pub ready-block-told : (rom ram block answer : ℕ) → judgeBlockTold state rom ram block answer ≡ Accepted bus → ReadyBlockTold state rom ram block answer bus
-  unfolding judgeBlockTold
-  ready-block-told rom ram block answer p =
-      let r = accepted state _ bus p in
-      let test = each (romFits bus rom) (ramFits bus ram ∷ numberFits answer ∷ []) (not-false _ (r .1 .0)) in
-      record {
-        part = record {
-          onRecord = r .0;
-          romIs = eqb-true rom (specsOf (bus .machine) .rom) (test 0);
-          ramIs = eqb-true ram (specsOf (bus .machine) .ram) (test 1);
-          blockIn = ltb-false 3 block (r .1 .1 .0);
-        };
-        answerIs = eqb-true answer 5 (test 2);
-      }
-
-  pub ready-shown : (a b : ℕ) → judgeShown state a b ≡ Accepted bus → ReadyShown state a b bus
+  pub ready-shown : (a b : ℕ) (fits : Bool) → judgeShown state a b fits ≡ Accepted bus → ReadyShown state a b fits bus
   unfolding judgeShown
-  ready-shown a b p =
+  ready-shown a b fits p =
       let r = accepted state _ bus p in
-      let test = each (pictureFits a) (pictureFits b ∷ []) (not-false _ (r .1 .0)) in
-      record { onRecord = r .0; aIs = eqb-true a 49152 (test 0); bIs = eqb-true b 49152 (test 1) }
-
-  pub ready-shown-told : (a b answer : ℕ) → judgeShownTold state a b answer ≡ Accepted bus → ReadyShownTold state a b answer bus
-  unfolding judgeShownTold
-  ready-shown-told a b answer p =
-      let r = accepted state _ bus p in
-      let test = each (pictureFits a) (pictureFits b ∷ numberFits answer ∷ []) (not-false _ (r .1 .0)) in
-      record {
-        part = record { onRecord = r .0; aIs = eqb-true a 49152 (test 0); bIs = eqb-true b 49152 (test 1) };
-        answerIs = eqb-true answer 5 (test 2);
-      }
+      let test = each (pictureFits a) (pictureFits b ∷ fits ∷ []) (not-false _ (r .1 .0)) in
+      record { onRecord = r .0; aIs = eqb-true a pictureLength (test 0); bIs = eqb-true b pictureLength (test 1); answerFits = test 2 }
 
   pub ready-still : (ram picture flash : ℕ) → judgeStill state ram picture flash ≡ Accepted bus → ReadyStill state ram picture flash bus
   unfolding judgeStill
@@ -208,6 +174,6 @@ module _ (state : List ℕ) (bus : Bus) where
       record {
         onRecord = r .0;
         ramIs = eqb-true ram (specsOf (bus .machine) .ram) (test 0);
-        pictureIs = eqb-true picture 49152 (test 1);
+        pictureIs = eqb-true picture pictureLength (test 1);
         flashIn = ltb-false 1 flash (r .1 .1 .0);
       }

@@ -14,8 +14,8 @@ use Rattle.answers.specs.declared.Refusal.{Refusal}
 use Rattle.answers.specs.declared.Verdict.{Verdict}
 use Rattle.answers.specs.declared.Verdict.the-variants.{Refused, Accepted}
 use Rattle.answers.specs.Refusals.{Cause, judged, judgedHeld, judge}
-use Rattle.answers.specs.Judges.{judgeWait, judgePort, judgeState, judgeTold, judgeRead, judgeWrite, judgeLoad, judgeRamPage, judgeRamPageTold, judgeBlock, judgeBlockTold, judgeShown, judgeShownTold, judgeStill}
-use Rattle.answers.specs.Order.{NoneHolds, FirstHolds, recordCauses, waitCauses, portCauses, stateCauses, toldCauses, readCauses, writeCauses, loadCauses, ramPageCauses, ramPageToldCauses, blockCauses, blockToldCauses, shownCauses, shownToldCauses, stillCauses, documentOrder, numbersOf, standIn, Ordered}
+use Rattle.answers.specs.Judges.{waitCauses, judgeWait, portCauses, judgePort, noCauses, judgeState, toldCauses, judgeTold, readCauses, judgeRead, writeCauses, judgeWrite, loadCauses, judgeLoad, ramPageCauses, judgeRamPage, blockCauses, judgeBlock, shownCauses, judgeShown, stillCauses, judgeStill}
+use Rattle.answers.specs.Order.{NoneHolds, FirstHolds, allCauses, documentOrder, numbersOf, standIn, Ordered}
 use Rattle.answers.proofs.Judging.{never}
 
 -- ---- any list of causes
@@ -85,7 +85,7 @@ held-in-order true false bus causes = refl
 held-in-order false t bus causes = refl
 
 -- the record's length and soundness, and then the call's own causes, are one list: a judgement is judged by it
-pub in-order : (state : List ℕ) (causes : Bus → List Cause) → judge state causes ≡ judged (recordCauses state ++ causes (recordOf state)) (recordOf state)
+pub in-order : (state : List ℕ) (causes : Bus → List Cause) → judge state causes ≡ judged (allCauses state causes) (recordOf state)
 unfolding heldBy judged
 in-order state causes = held-in-order (eqb (length state) recordLength) (soundBytes state) (recordOf state) causes
 
@@ -100,60 +100,53 @@ by-list v causes bus p s =
       noneAccepts = λ n. p ∙ none-accepts causes bus n;
     }
 
--- ---- every judgement is judged by its list, which stands in document 01's order
+-- a judgement is judged by all its causes
+judge-ordered : (state : List ℕ) (causes : Bus → List Cause) → standIn (numbersOf (allCauses state causes)) documentOrder ≡ true
+    → Ordered (judge state causes) (allCauses state causes) (recordOf state)
+judge-ordered state causes s = by-list (judge state causes) (allCauses state causes) (recordOf state) (in-order state causes) s
+
+-- ---- every judgement is judged by its causes, which stand in document 01's order
 module _ (state : List ℕ) where
-  pub wait-ordered : (ram a b border clocks answer : ℕ) → Ordered (judgeWait state ram a b border clocks answer) (waitCauses state ram a b border clocks answer) (recordOf state)
+  pub wait-ordered : (ram a b border clocks answer : ℕ) → Ordered (judgeWait state ram a b border clocks answer) (allCauses state (waitCauses ram a b border clocks answer)) (recordOf state)
   unfolding judgeWait standIn
-  wait-ordered ram a b border clocks answer = by-list _ _ _ (in-order state _) refl
+  wait-ordered ram a b border clocks answer = judge-ordered state (waitCauses ram a b border clocks answer) refl
 
-  pub port-ordered : (devices : List ℕ) (ram a b border answer : ℕ) → Ordered (judgePort state devices ram a b border answer) (portCauses state devices ram a b border answer) (recordOf state)
+  pub port-ordered : (devices : List ℕ) (ram a b border answer : ℕ) → Ordered (judgePort state devices ram a b border answer) (allCauses state (portCauses devices ram a b border answer)) (recordOf state)
   unfolding judgePort standIn
-  port-ordered devices ram a b border answer = by-list _ _ _ (in-order state _) refl
+  port-ordered devices ram a b border answer = judge-ordered state (portCauses devices ram a b border answer) refl
 
-  pub state-ordered : Ordered (judgeState state) (stateCauses state) (recordOf state)
+  pub state-ordered : Ordered (judgeState state) (allCauses state noCauses) (recordOf state)
   unfolding judgeState standIn
-  state-ordered = by-list _ _ _ (in-order state _) refl
+  state-ordered = judge-ordered state noCauses refl
 
-  pub told-ordered : (answer : ℕ) → Ordered (judgeTold state answer) (toldCauses state answer) (recordOf state)
+  pub told-ordered : (answer : ℕ) → Ordered (judgeTold state answer) (allCauses state (toldCauses answer)) (recordOf state)
   unfolding judgeTold standIn
-  told-ordered answer = by-list _ _ _ (in-order state _) refl
+  told-ordered answer = judge-ordered state (toldCauses answer) refl
 
-  pub read-ordered : (rom ram answer : ℕ) → Ordered (judgeRead state rom ram answer) (readCauses state rom ram answer) (recordOf state)
+  pub read-ordered : (rom ram answer : ℕ) → Ordered (judgeRead state rom ram answer) (allCauses state (readCauses rom ram answer)) (recordOf state)
   unfolding judgeRead standIn
-  read-ordered rom ram answer = by-list _ _ _ (in-order state _) refl
+  read-ordered rom ram answer = judge-ordered state (readCauses rom ram answer) refl
 
-  pub write-ordered : (ram : ℕ) → Ordered (judgeWrite state ram) (writeCauses state ram) (recordOf state)
+  pub write-ordered : (ram : ℕ) → Ordered (judgeWrite state ram) (allCauses state (writeCauses ram)) (recordOf state)
   unfolding judgeWrite standIn
-  write-ordered ram = by-list _ _ _ (in-order state _) refl
+  write-ordered ram = judge-ordered state (writeCauses ram) refl
 
-  pub load-ordered : (ram bytes page : ℕ) → Ordered (judgeLoad state ram bytes page) (loadCauses state ram bytes page) (recordOf state)
+  pub load-ordered : (ram bytes page : ℕ) → Ordered (judgeLoad state ram bytes page) (allCauses state (loadCauses ram bytes page)) (recordOf state)
   unfolding judgeLoad standIn
-  load-ordered ram bytes page = by-list _ _ _ (in-order state _) refl
+  load-ordered ram bytes page = judge-ordered state (loadCauses ram bytes page) refl
 
-  pub ram-page-ordered : (ram page : ℕ) → Ordered (judgeRamPage state ram page) (ramPageCauses state ram page) (recordOf state)
+  pub ram-page-ordered : (ram page : ℕ) (fits : Bool) → Ordered (judgeRamPage state ram page fits) (allCauses state (ramPageCauses ram page fits)) (recordOf state)
   unfolding judgeRamPage standIn
-  ram-page-ordered ram page = by-list _ _ _ (in-order state _) refl
+  ram-page-ordered ram page fits = judge-ordered state (ramPageCauses ram page fits) refl
 
-  pub ram-page-told-ordered : (ram page answer : ℕ) → Ordered (judgeRamPageTold state ram page answer) (ramPageToldCauses state ram page answer) (recordOf state)
-  unfolding judgeRamPageTold standIn
-  ram-page-told-ordered ram page answer = by-list _ _ _ (in-order state _) refl
-
-  pub block-ordered : (rom ram block : ℕ) → Ordered (judgeBlock state rom ram block) (blockCauses state rom ram block) (recordOf state)
+  pub block-ordered : (rom ram block : ℕ) (fits : Bool) → Ordered (judgeBlock state rom ram block fits) (allCauses state (blockCauses rom ram block fits)) (recordOf state)
   unfolding judgeBlock standIn
-  block-ordered rom ram block = by-list _ _ _ (in-order state _) refl
+  block-ordered rom ram block fits = judge-ordered state (blockCauses rom ram block fits) refl
 
-  pub block-told-ordered : (rom ram block answer : ℕ) → Ordered (judgeBlockTold state rom ram block answer) (blockToldCauses state rom ram block answer) (recordOf state)
-  unfolding judgeBlockTold standIn
-  block-told-ordered rom ram block answer = by-list _ _ _ (in-order state _) refl
-
-  pub shown-ordered : (a b : ℕ) → Ordered (judgeShown state a b) (shownCauses state a b) (recordOf state)
+  pub shown-ordered : (a b : ℕ) (fits : Bool) → Ordered (judgeShown state a b fits) (allCauses state (shownCauses a b fits)) (recordOf state)
   unfolding judgeShown standIn
-  shown-ordered a b = by-list _ _ _ (in-order state _) refl
+  shown-ordered a b fits = judge-ordered state (shownCauses a b fits) refl
 
-  pub shown-told-ordered : (a b answer : ℕ) → Ordered (judgeShownTold state a b answer) (shownToldCauses state a b answer) (recordOf state)
-  unfolding judgeShownTold standIn
-  shown-told-ordered a b answer = by-list _ _ _ (in-order state _) refl
-
-  pub still-ordered : (ram picture flash : ℕ) → Ordered (judgeStill state ram picture flash) (stillCauses state ram picture flash) (recordOf state)
+  pub still-ordered : (ram picture flash : ℕ) → Ordered (judgeStill state ram picture flash) (allCauses state (stillCauses ram picture flash)) (recordOf state)
   unfolding judgeStill standIn
-  still-ordered ram picture flash = by-list _ _ _ (in-order state _) refl
+  still-ordered ram picture flash = judge-ordered state (stillCauses ram picture flash) refl

@@ -8,6 +8,13 @@ use lib.ListN.{length, replicate}
 use Rattle.record.specs.Words.{bytes16, bytes32}
 use Rattle.record.specs.Record.{flagByte}
 
+-- "a 10-byte answer", "a 5-byte answer"
+abbrev pub timedLength : ℕ
+timedLength = 10
+
+abbrev pub numberLength : ℕ
+numberLength = 5
+
 -- "Timed calls .. fill a 10-byte answer: refusal; value or code (0 for a wait); frame closed 0/1; interrupt after the call; clocks (32);
 -- blocks painted (16), little-endian."
 abbrev pub timedAnswer : ℕ → Bool → Bool → ℕ → ℕ → List ℕ

@@ -3,19 +3,17 @@
 -- Assumes nothing.
 use Prim.Native.Nat.{ℕ}
 use mathlib.Core.Path.{_≡_}
-use mathlib.Core.Bool.{Bool, true, false, cond, not, _&&_}
+use mathlib.Core.Bool.{Bool, true, false, cond, not}
 use mathlib.Core.List.{List, [], _∷_, _++_, map}
-use lib.Dec.{eqb, ltb}
+use lib.Dec.{eqb}
 use lib.ListN.{length}
 use Rattle.record.specs.declared.Bus.{Bus}
 use Rattle.record.specs.Record.{recordLength, recordOf, soundBytes}
-use Rattle.ports.specs.Devices.{flagsOf}
 use Rattle.answers.specs.declared.Refusal.{Refusal}
-use Rattle.answers.specs.declared.Refusal.the-variants.{BadLength, Unsound, BadFlag, BadNumber}
+use Rattle.answers.specs.declared.Refusal.the-variants.{BadLength, Unsound}
 use Rattle.answers.specs.declared.Verdict.{Verdict}
 use Rattle.answers.specs.declared.Verdict.the-variants.{Refused, Accepted}
 use Rattle.answers.specs.Refusals.{refusalNumber, Cause, cause}
-use Rattle.answers.specs.Judges.{ramFits, romFits, pictureFits, timedFits, numberFits, lentFit, unless, framesFull, longWait, badPage}
 
 -- no condition holds
 abbrev pub NoneHolds : List Cause → Type 0
@@ -36,69 +34,9 @@ pub record FirstHolds (causes : List Cause) (e : Refusal) : Type 0 where
 abbrev pub recordCauses : List ℕ → List Cause
 recordCauses state = cause BadLength (not (eqb (length state) recordLength)) ∷ cause Unsound (not (soundBytes state)) ∷ []
 
--- all the causes of each judgement in one list, the record's own first
--- the three waits: other lengths, 5, 6
-abbrev pub waitCauses : List ℕ → ℕ → ℕ → ℕ → ℕ → ℕ → ℕ → List Cause
-waitCauses state ram a b border clocks answer =
-    recordCauses state ++ (unless (lentFit (recordOf state) ram a b border && timedFits answer) ∷ longWait clocks ∷ framesFull (recordOf state) ∷ [])
-
--- port read and port write: other lengths, 4, 6
-abbrev pub portCauses : List ℕ → List ℕ → ℕ → ℕ → ℕ → ℕ → ℕ → List Cause
-portCauses state devices ram a b border answer =
-    recordCauses state ++ (unless (eqb (length devices) 35 && lentFit (recordOf state) ram a b border && timedFits answer)
-    ∷ cause BadFlag (not (flagsOf devices)) ∷ framesFull (recordOf state) ∷ [])
-
--- the record alone
-abbrev pub stateCauses : List ℕ → List Cause
-stateCauses state = recordCauses state
-
--- the record with a number to give
-abbrev pub toldCauses : List ℕ → ℕ → List Cause
-toldCauses state answer =
-    recordCauses state ++ (unless (numberFits answer) ∷ [])
-
--- byte read, byte write
-abbrev pub readCauses : List ℕ → ℕ → ℕ → ℕ → List Cause
-readCauses state rom ram answer =
-    recordCauses state ++ (unless (romFits (recordOf state) rom && ramFits (recordOf state) ram && numberFits answer) ∷ [])
-
-abbrev pub writeCauses : List ℕ → ℕ → List Cause
-writeCauses state ram =
-    recordCauses state ++ (unless (ramFits (recordOf state) ram) ∷ [])
-
--- page load, RAM page: other lengths, 7
-abbrev pub loadCauses : List ℕ → ℕ → ℕ → ℕ → List Cause
-loadCauses state ram bytes page =
-    recordCauses state ++ (unless (ramFits (recordOf state) ram && eqb bytes 16384) ∷ badPage (recordOf state) page ∷ [])
-
-abbrev pub ramPageCauses : List ℕ → ℕ → ℕ → List Cause
-ramPageCauses state ram page =
-    recordCauses state ++ (unless (ramFits (recordOf state) ram) ∷ badPage (recordOf state) page ∷ [])
-
-abbrev pub ramPageToldCauses : List ℕ → ℕ → ℕ → ℕ → List Cause
-ramPageToldCauses state ram page answer =
-    recordCauses state ++ (unless (ramFits (recordOf state) ram && numberFits answer) ∷ badPage (recordOf state) page ∷ [])
-
--- block, shown picture, still picture: other lengths, 8
-abbrev pub blockCauses : List ℕ → ℕ → ℕ → ℕ → List Cause
-blockCauses state rom ram block =
-    recordCauses state ++ (unless (romFits (recordOf state) rom && ramFits (recordOf state) ram) ∷ cause BadNumber (ltb 3 block) ∷ [])
-
-abbrev pub blockToldCauses : List ℕ → ℕ → ℕ → ℕ → ℕ → List Cause
-blockToldCauses state rom ram block answer =
-    recordCauses state ++ (unless (romFits (recordOf state) rom && ramFits (recordOf state) ram && numberFits answer) ∷ cause BadNumber (ltb 3 block) ∷ [])
-
-abbrev pub shownCauses : List ℕ → ℕ → ℕ → List Cause
-shownCauses state a b =
-    recordCauses state ++ (unless (pictureFits a && pictureFits b) ∷ [])
-
-abbrev pub shownToldCauses : List ℕ → ℕ → ℕ → ℕ → List Cause
-shownToldCauses state a b answer =
-    recordCauses state ++ (unless (pictureFits a && pictureFits b && numberFits answer) ∷ [])
-
-abbrev pub stillCauses : List ℕ → ℕ → ℕ → ℕ → List Cause
-stillCauses state ram picture flash =
-    recordCauses state ++ (unless (ramFits (recordOf state) ram && pictureFits picture) ∷ cause BadNumber (ltb 1 flash) ∷ [])
+-- all the causes of a call in one list: the record's own, and then those over the record that its bytes stand for
+abbrev pub allCauses : List ℕ → (Bus → List Cause) → List Cause
+allCauses state causes = recordCauses state ++ causes (recordOf state)
 
 -- "Order: 1, record length, 3, other lengths, 4, 5, 6, 7, 8."
 abbrev pub documentOrder : List ℕ

@@ -9,6 +9,7 @@ use Rattle.record.specs.declared.Held.the-variants as held
 use Rattle.record.specs.Record.{heldBy}
 use Rattle.answers.specs.declared.Refusal.{Refusal}
 use Rattle.answers.specs.declared.Refusal.the-variants.{BadMachine, BadLength, Unsound, BadFlag, LongWait, FramesFull, BadPage, BadNumber}
+use Rattle.answers.specs.declared.Causes.{Causes}
 use Rattle.answers.specs.declared.Verdict.{Verdict}
 use Rattle.answers.specs.declared.Verdict.the-variants.{Refused, Accepted}
 
@@ -35,6 +36,12 @@ cause refusal holds = record { holds = holds; refusal = refusal }
 unfoldable pub judged : List Cause → Bus → Verdict
 judged [] bus = Accepted bus
 judged (c ∷ cs) bus = cond (c .holds) (Refused (c .refusal)) (judged cs bus)
+
+-- "other lengths, 4, 5, 6, 7, 8": the code's causes behind the record, by their names, as a list
+abbrev pub inTurn : Causes → List Cause
+inTurn c =
+    cause BadLength (c .length) ∷ cause BadFlag (c .flag) ∷ cause LongWait (c .wait) ∷ cause FramesFull (c .frames) ∷ cause BadPage (c .page)
+    ∷ cause BadNumber (c .number) ∷ []
 
 -- "Order: 1, record length, 3, other lengths, 4, 5, 6, 7, 8.": the record is judged before what depends on it
 abbrev pub judgedHeld : Held → (Bus → List Cause) → Verdict

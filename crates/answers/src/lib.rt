@@ -2,16 +2,19 @@
 // What it promises: each judgement is the first refusal, in the stated order, whose condition holds, or the sound record where none does; each answer has exactly the stated bytes.
 // Where its definitions stand: specs/Refusals.antt (numbers and order), specs/Judges.antt (each call's conditions), specs/Answers.antt (bytes).
 ghost use mathlib.Core.Path.{_≡_};
-ghost use mathlib.Core.List.{[], _∷_};
 ghost use Prim.Native.Nat.{_<_};
 ghost use lib.ListN.{length, replicate};
 ghost use Rattle.record.specs.Record.{flagByte};
-ghost use Rattle.answers.specs.declared.Refusal.the-variants.{BadLength, BadFlag, LongWait, FramesFull, BadPage, BadNumber};
-ghost use Rattle.answers.specs.Refusals.{refusalNumber, cause, judged};
-ghost use Rattle.answers.specs.Judges.{ramFits, romFits, lentFit, judgeWait, judgePort, judgeState, judgeTold, judgeRead, judgeWrite, judgeLoad, judgeRamPage, judgeRamPageTold, judgeBlock, judgeBlockTold, judgeShown, judgeShownTold, judgeStill, framesFull, badPage};
-ghost use Rattle.answers.specs.Answers.{timedAnswer, numberAnswer, refusedAnswer};
+ghost use Rattle.answers.specs.Refusals.{refusalNumber, judged, inTurn};
+ghost use Rattle.answers.specs.Judges.{ramFits, romFits, lentFit, judgeWait, judgePort, judgeState, judgeTold, judgeRead, judgeWrite, judgeLoad, judgeRamPage, judgeBlock, judgeShown, judgeStill, framesFull, badPage};
+ghost use Rattle.answers.specs.Answers.{timedLength, timedAnswer, numberLength, numberAnswer, refusedAnswer};
 use record::Bus;
 use record::Held;
+
+// Bytes of a timed call's answer, and of another call's with a number to give.
+pub const TIMED_LENGTH: usize = 10;
+
+pub const NUMBER_LENGTH: usize = 5;
 
 pub enum Refusal {
     BadMachine,
@@ -46,34 +49,46 @@ pub fn number(e: Refusal) -> u8
     }
 }
 
-// The order behind the record, in one place: "other lengths, 4, 5, 6, 7, 8". Each test says that its condition holds.
-fn first_cause(
-    bus: Bus,
+// The causes behind the record, each by whether it holds, in their order: "other lengths, 4, 5, 6, 7, 8".
+struct Causes {
     length: bool,
     flag: bool,
     wait: bool,
     frames: bool,
     page: bool,
     number: bool,
-) -> Verdict
-    ensures { λ r. ⌜ r ≡ judged (cause BadLength length ∷ cause BadFlag flag ∷ cause LongWait wait ∷ cause FramesFull frames ∷ cause BadPage page ∷ cause BadNumber number ∷ []) bus ⌝ }
+}
+
+// A call names the causes that are its own; no other holds.
+const NONE: Causes = Causes {
+    length: false,
+    flag: false,
+    wait: false,
+    frames: false,
+    page: false,
+    number: false,
+};
+
+// The first cause that holds refuses.
+fn first_cause(bus: Bus, causes: Causes) -> Verdict
+    ensures { λ r. ⌜ r ≡ judged (inTurn causes) bus ⌝ }
 {
-    if length {
+    if causes.length {
         return Verdict::Refused(Refusal::BadLength);
     }
-    if flag {
+    if causes.flag {
         return Verdict::Refused(Refusal::BadFlag);
     }
-    if wait {
+    if causes.wait {
         return Verdict::Refused(Refusal::LongWait);
     }
-    if frames {
+    if causes.frames {
         return Verdict::Refused(Refusal::FramesFull);
     }
-    if page {
+    if causes.page {
         return Verdict::Refused(Refusal::BadPage);
     }
-    if number {
+    if causes.number {
         return Verdict::Refused(Refusal::BadNumber);
     }
     Verdict::Accepted(bus)
@@ -111,14 +126,17 @@ fn rom_fits(bus: Bus, rom: usize) -> bool
 fn lent_fit(bus: Bus, ram: usize, a: usize, b: usize, border: usize) -> bool
     ensures { λ r. ⌜ r ≡ lentFit bus ram a b border ⌝ }
 {
-    ram_fits(bus, ram) & (a == 49152) & (b == 49152) & (border == 76800)
+    ram_fits(bus, ram)
+        & (a == machine::PICTURE_LENGTH)
+        & (b == machine::PICTURE_LENGTH)
+        & (border == machine::BORDER_LENGTH)
 }
 
 // Passed frames at their last number.
 fn frames_full(bus: Bus) -> bool
     ensures { λ r. ⌜ r ≡ framesFull bus .holds ⌝ }
 {
-    bus.passed == 4294967295
+    bus.passed == record::LAST_FRAME
 }
 
 // A slice is given by its length from here on, the state and the device record by their bytes.
@@ -137,9 +155,17 @@ pub fn judge_wait(
     match v {
         Verdict::Refused(e) => Verdict::Refused(e),
         Verdict::Accepted(bus) => {
-            let fit = lent_fit(bus, ram, a, b, border) & (answer == 10);
+            let fit = lent_fit(bus, ram, a, b, border) & (answer == TIMED_LENGTH);
             let full = frames_full(bus);
-            first_cause(bus, !fit, false, 65535 < clocks, full, false, false)
+            first_cause(
+                bus,
+                Causes {
+                    length: !fit,
+                    wait: machine::LONGEST_WAIT < clocks,
+                    frames: full,
+                    ..NONE
+                },
+            )
         }
     }
 }
@@ -160,11 +186,19 @@ pub fn judge_port(
     match v {
         Verdict::Refused(e) => Verdict::Refused(e),
         Verdict::Accepted(bus) => {
-            if devices.len() == 35 {
-                let fit = lent_fit(bus, ram, a, b, border) & (answer == 10);
+            if devices.len() == ports::DEVICES_LENGTH {
+                let fit = lent_fit(bus, ram, a, b, border) & (answer == TIMED_LENGTH);
                 let flags = ports::flags(devices);
                 let full = frames_full(bus);
-                first_cause(bus, !fit, !flags, false, full, false, false)
+                first_cause(
+                    bus,
+                    Causes {
+                        length: !fit,
+                        flag: !flags,
+                        frames: full,
+                        ..NONE
+                    },
+                )
             } else {
                 Verdict::Refused(Refusal::BadLength)
             }
@@ -180,7 +214,13 @@ pub fn judge_told(state: &[u8], answer: usize) -> Verdict
     match v {
         Verdict::Refused(e) => Verdict::Refused(e),
         Verdict::Accepted(bus) => {
-            first_cause(bus, !(answer == 5), false, false, false, false, false)
+            first_cause(
+                bus,
+                Causes {
+                    length: !(answer == NUMBER_LENGTH),
+                    ..NONE
+                },
+            )
         }
     }
 }
@@ -192,8 +232,14 @@ pub fn judge_read(state: &[u8], rom: usize, ram: usize, answer: usize) -> Verdic
     match v {
         Verdict::Refused(e) => Verdict::Refused(e),
         Verdict::Accepted(bus) => {
-            let fit = rom_fits(bus, rom) & ram_fits(bus, ram) & (answer == 5);
-            first_cause(bus, !fit, false, false, false, false, false)
+            let fit = rom_fits(bus, rom) & ram_fits(bus, ram) & (answer == NUMBER_LENGTH);
+            first_cause(
+                bus,
+                Causes {
+                    length: !fit,
+                    ..NONE
+                },
+            )
         }
     }
 }
@@ -206,7 +252,13 @@ pub fn judge_write(state: &[u8], ram: usize) -> Verdict
         Verdict::Refused(e) => Verdict::Refused(e),
         Verdict::Accepted(bus) => {
             let fit = ram_fits(bus, ram);
-            first_cause(bus, !fit, false, false, false, false, false)
+            first_cause(
+                bus,
+                Causes {
+                    length: !fit,
+                    ..NONE
+                },
+            )
         }
     }
 }
@@ -225,89 +277,77 @@ pub fn judge_load(state: &[u8], ram: usize, bytes: usize, page: u32) -> Verdict
     match v {
         Verdict::Refused(e) => Verdict::Refused(e),
         Verdict::Accepted(bus) => {
-            let fit = ram_fits(bus, ram) & (bytes == 16384);
+            let fit = ram_fits(bus, ram) & (bytes == machine::PAGE_LENGTH);
             let missing = page_missing(bus, page);
-            first_cause(bus, !fit, false, false, false, missing, false)
+            first_cause(
+                bus,
+                Causes {
+                    length: !fit,
+                    page: missing,
+                    ..NONE
+                },
+            )
         }
     }
 }
 
-pub fn judge_ram_page(state: &[u8], ram: usize, page: u32) -> Verdict
-    ensures { λ r. ⌜ r ≡ judgeRamPage (now (state .entry)) ram page ⌝ }
+// Of the three that hand back a part, `fits` says that the answer has its length; a Rattle caller lends none, and says true.
+pub fn judge_ram_page(state: &[u8], ram: usize, page: u32, fits: bool) -> Verdict
+    ensures { λ r. ⌜ r ≡ judgeRamPage (now (state .entry)) ram page fits ⌝ }
 {
     let v = judge_state(state);
     match v {
         Verdict::Refused(e) => Verdict::Refused(e),
         Verdict::Accepted(bus) => {
-            let fit = ram_fits(bus, ram);
+            let fit = ram_fits(bus, ram) & fits;
             let missing = page_missing(bus, page);
-            first_cause(bus, !fit, false, false, false, missing, false)
+            first_cause(
+                bus,
+                Causes {
+                    length: !fit,
+                    page: missing,
+                    ..NONE
+                },
+            )
         }
     }
 }
 
-pub fn judge_ram_page_told(state: &[u8], ram: usize, page: u32, answer: usize) -> Verdict
-    ensures { λ r. ⌜ r ≡ judgeRamPageTold (now (state .entry)) ram page answer ⌝ }
+pub fn judge_block(state: &[u8], rom: usize, ram: usize, block: u32, fits: bool) -> Verdict
+    ensures { λ r. ⌜ r ≡ judgeBlock (now (state .entry)) rom ram block fits ⌝ }
 {
     let v = judge_state(state);
     match v {
         Verdict::Refused(e) => Verdict::Refused(e),
         Verdict::Accepted(bus) => {
-            let fit = ram_fits(bus, ram) & (answer == 5);
-            let missing = page_missing(bus, page);
-            first_cause(bus, !fit, false, false, false, missing, false)
+            let fit = rom_fits(bus, rom) & ram_fits(bus, ram) & fits;
+            first_cause(
+                bus,
+                Causes {
+                    length: !fit,
+                    number: 3 < block,
+                    ..NONE
+                },
+            )
         }
     }
 }
 
-pub fn judge_block(state: &[u8], rom: usize, ram: usize, block: u32) -> Verdict
-    ensures { λ r. ⌜ r ≡ judgeBlock (now (state .entry)) rom ram block ⌝ }
+pub fn judge_shown(state: &[u8], a: usize, b: usize, fits: bool) -> Verdict
+    ensures { λ r. ⌜ r ≡ judgeShown (now (state .entry)) a b fits ⌝ }
 {
     let v = judge_state(state);
     match v {
         Verdict::Refused(e) => Verdict::Refused(e),
         Verdict::Accepted(bus) => {
-            let fit = rom_fits(bus, rom) & ram_fits(bus, ram);
-            first_cause(bus, !fit, false, false, false, false, 3 < block)
-        }
-    }
-}
-
-pub fn judge_block_told(state: &[u8], rom: usize, ram: usize, block: u32, answer: usize) -> Verdict
-    ensures { λ r. ⌜ r ≡ judgeBlockTold (now (state .entry)) rom ram block answer ⌝ }
-{
-    let v = judge_state(state);
-    match v {
-        Verdict::Refused(e) => Verdict::Refused(e),
-        Verdict::Accepted(bus) => {
-            let fit = rom_fits(bus, rom) & ram_fits(bus, ram) & (answer == 5);
-            first_cause(bus, !fit, false, false, false, false, 3 < block)
-        }
-    }
-}
-
-pub fn judge_shown(state: &[u8], a: usize, b: usize) -> Verdict
-    ensures { λ r. ⌜ r ≡ judgeShown (now (state .entry)) a b ⌝ }
-{
-    let v = judge_state(state);
-    match v {
-        Verdict::Refused(e) => Verdict::Refused(e),
-        Verdict::Accepted(bus) => {
-            let fit = (a == 49152) & (b == 49152);
-            first_cause(bus, !fit, false, false, false, false, false)
-        }
-    }
-}
-
-pub fn judge_shown_told(state: &[u8], a: usize, b: usize, answer: usize) -> Verdict
-    ensures { λ r. ⌜ r ≡ judgeShownTold (now (state .entry)) a b answer ⌝ }
-{
-    let v = judge_state(state);
-    match v {
-        Verdict::Refused(e) => Verdict::Refused(e),
-        Verdict::Accepted(bus) => {
-            let fit = (a == 49152) & (b == 49152) & (answer == 5);
-            first_cause(bus, !fit, false, false, false, false, false)
+            let fit = (a == machine::PICTURE_LENGTH) & (b == machine::PICTURE_LENGTH) & fits;
+            first_cause(
+                bus,
+                Causes {
+                    length: !fit,
+                    ..NONE
+                },
+            )
         }
     }
 }
@@ -319,8 +359,15 @@ pub fn judge_still(state: &[u8], ram: usize, picture: usize, flash: u32) -> Verd
     match v {
         Verdict::Refused(e) => Verdict::Refused(e),
         Verdict::Accepted(bus) => {
-            let fit = ram_fits(bus, ram) & (picture == 49152);
-            first_cause(bus, !fit, false, false, false, false, 1 < flash)
+            let fit = ram_fits(bus, ram) & (picture == machine::PICTURE_LENGTH);
+            first_cause(
+                bus,
+                Causes {
+                    length: !fit,
+                    number: 1 < flash,
+                    ..NONE
+                },
+            )
         }
     }
 }
@@ -365,7 +412,7 @@ pub fn fill_timed(
     clocks: u32,
     blocks: u32,
 )
-    requires { ⌜ length (now answer) ≡ 10 ⌝ }
+    requires { ⌜ length (now answer) ≡ timedLength ⌝ }
     ensures { λ _. ⌜ now (answer .exit) ≡ timedAnswer value closed interrupt clocks blocks ⌝ }
 {
     let c = flag(closed);
@@ -389,7 +436,7 @@ pub fn fill_timed(
 
 // The answer of another accepted call with a number to give.
 pub fn fill_number(answer: &mut [u8], n: u32)
-    requires { ⌜ length (now answer) ≡ 5 ⌝ }
+    requires { ⌜ length (now answer) ≡ numberLength ⌝ }
     ensures { λ _. ⌜ now (answer .exit) ≡ numberAnswer n ⌝ }
 {
     bytes::copy(

@@ -8,6 +8,7 @@ use lib.Seq.{sets}
 use Rattle.machine.specs.declared.BorderPlace.{BorderPlace}
 use Rattle.machine.specs.declared.BorderPlace.the-variants.{At, FrameEnd}
 use Rattle.machine.specs.Timing.{placePosition}
+use Rattle.machine.specs.Limits.{borderLength}
 use Rattle.border.specs.declared.Beam.{Beam}
 
 -- the border: "beam colour 0..7; beam blocked 0/1; beam position in pixel pairs", and the 76,800 pixels
@@ -33,7 +34,7 @@ filledTo to e = filled (2 * e .pairs) to (e .colour) (e .pixels)
 unfoldable pub inkedAt : BorderPlace → ℕ → Edge → Edge
 inkedAt (At line pixel) colour e =
     record { colour = colour; blocked = false; pairs = placePosition (At line pixel) / 2; pixels = filledTo (placePosition (At line pixel)) e }
-inkedAt FrameEnd colour e = record { colour = colour; blocked = true; pairs = 0; pixels = filledTo 76800 e }
+inkedAt FrameEnd colour e = record { colour = colour; blocked = true; pairs = 0; pixels = filledTo borderLength e }
 
 -- "later writes in that frame only change the colour"
 unfoldable pub inked : BorderPlace → ℕ → Edge → Edge
@@ -45,4 +46,4 @@ inked place colour e =
 -- "Closing fills the rest unless blocked, and clears both."
 unfoldable pub finished : Edge → Edge
 finished e =
-    record { colour = e .colour; blocked = false; pairs = 0; pixels = cond (e .blocked) (e .pixels) (filledTo 76800 e) }
+    record { colour = e .colour; blocked = false; pairs = 0; pixels = cond (e .blocked) (e .pixels) (filledTo borderLength e) }

@@ -6,6 +6,7 @@ ghost use Prim.Native.Nat.{_≤_};
 ghost use lib.ListN.{length};
 ghost use Rattle.machine.specs.Numbers.{specsOf};
 ghost use Rattle.machine.specs.Timing.{borderAt};
+ghost use Rattle.machine.specs.Limits.{borderLength};
 ghost use Rattle.border.specs.Edge.{filled, edgeOf, inked, finished};
 use machine::BorderPlace;
 use machine::ZXMachine;
@@ -37,7 +38,7 @@ pub fn set_border(
     colour: u8,
     border: &mut [u8],
 ) -> Beam
-    requires { ⌜ length (now border) ≡ 76800 ⌝ }
+    requires { ⌜ length (now border) ≡ borderLength ⌝ }
     ensures { λ r. ⌜ edgeOf r (now (border .exit)) ≡ inked (borderAt (specsOf machine) clocks) colour (edgeOf beam (now (border .entry))) ⌝ }
 {
     let pairs = beam.pairs;
@@ -60,7 +61,7 @@ pub fn set_border(
             }
         }
         BorderPlace::FrameEnd => {
-            fill(border, from, 76800, beam.colour);
+            fill(border, from, machine::BORDER_LENGTH, beam.colour);
             Beam {
                 colour,
                 blocked: true,
@@ -72,7 +73,7 @@ pub fn set_border(
 
 // A frame's closing: the rest of the border is painted, and the beam goes back to the first pixel.
 pub fn new_frame(beam: Beam, border: &mut [u8]) -> Beam
-    requires { ⌜ length (now border) ≡ 76800 ⌝ }
+    requires { ⌜ length (now border) ≡ borderLength ⌝ }
     ensures { λ r. ⌜ edgeOf r (now (border .exit)) ≡ finished (edgeOf beam (now (border .entry))) ⌝ }
 {
     let colour = beam.colour;
@@ -85,7 +86,7 @@ pub fn new_frame(beam: Beam, border: &mut [u8]) -> Beam
         };
     }
     let from = 2 * (pairs as usize);
-    fill(border, from, 76800, colour);
+    fill(border, from, machine::BORDER_LENGTH, colour);
     Beam {
         colour,
         blocked: false,

@@ -17,7 +17,7 @@ use Rattle.machine.specs.Timing.{borderAt, placePosition, isFrameEnd, frameEnd}
 use Rattle.machine.proofs.Numbered.{regular}
 use Rattle.machine.proofs.Rising.{border-mono, end-is}
 use Rattle.record.specs.Sound.{Sound}
-use Rattle.record.specs.Record.{startRecord}
+use Rattle.record.specs.Record.{startRecord, HasRoom}
 use Rattle.record.proofs.Soundness.{sound-facts, start-sound}
 use Rattle.border.specs.Edge.{Edge, inked, inkedAt, finished}
 use Rattle.bus.specs.World.{World, busOf, started}
@@ -213,7 +213,7 @@ all-in-range m (o ∷ os) i = (in-range m o (i .0), all-in-range m os (i .1))
 
 -- EVERY CALL KEEPS SOUNDNESS: a plain wait, a wait at an address, a port read and a port write (TimedCalls has the four as timed parts), on a
 -- sound world below refusal 6, leaves a sound world.
-pub call-kept : (m : ZXMachine) (f : Part) → Timed m f → (w : World) → SoundWorld m w → w .core .passed < 4294967295
+pub call-kept : (m : ZXMachine) (f : Part) → Timed m f → (w : World) → SoundWorld m w → HasRoom (w .core .passed)
     → SoundWorld m (ranBy f (fresh m w) .world)
 call-kept m f t w s room =
     let b = t .brief (w .core) in

@@ -14,9 +14,10 @@ use Rattle.laws.proofs.Conjunction.{each}
 use Rattle.machine.specs.declared.ZXMachine.{ZXMachine}
 use Rattle.machine.specs.declared.ZXMachine.the-variants.{Sinclair48K, Sinclair128K}
 use Rattle.machine.specs.Numbers.{specsOf}
+use Rattle.machine.specs.Limits.{pageLength, longestWait}
 use Rattle.machine.specs.Timing.{interrupt}
 use Rattle.record.specs.declared.Bus.{Bus}
-use Rattle.record.specs.Record.{recordBytes, recordOf, machineOf}
+use Rattle.record.specs.Record.{recordBytes, recordOf, machineOf, withPaging, withPassed, lastFrame, noRoom, HasRoom}
 use Rattle.memory.specs.declared.Place.{Place}
 use Rattle.memory.specs.declared.Place.the-variants as place
 use Rattle.memory.specs.declared.Paged.{Paged}
@@ -42,7 +43,7 @@ use Rattle.answers.specs.Answers.{timedAnswer}
 use Rattle.answers.specs.Order.{NoneHolds}
 use Rattle.answers.proofs.Order.{state-ordered, wait-ordered, port-ordered, told-ordered, write-ordered, load-ordered}
 use Rattle.contracts.specs.Timed.{Lent, lentBy, startFitsOf, startLeaves, start, Outcome, outcome, timed, timedEnd, judgeWaitOf, judgePortOf, waitInternal, waitAt, readIo, writeIo}
-use Rattle.contracts.specs.Plain.{change, repage, withPaging, withPassed, writeInternal, write7ffdCall, resetFrames, loadPage}
+use Rattle.contracts.specs.Plain.{change, repage, writeInternal, write7ffdCall, resetFrames, loadPage}
 use Rattle.contracts.specs.Calls.{TimedCall, plain, mreq, noMreq, portIn, portOut, Call, startAgain, timedCall, writeByte, writePaging, resetPassed, loadRam, ask, Result, withRam, withState, waited, partOf, valueOf, opsOf, replied, performed, timedCauses, causesOf, Typed, Sized, NotStarted}
 use Rattle.contracts.proofs.Wholes.{record-of}
 
@@ -111,19 +112,19 @@ module _ (m : ZXMachine) (w : World) (sound : SoundWorld m w) (sized : Sized m w
     part-timed : Typed (timedCall t answer) → Timed m (partOf t m)
     part-timed typed = by t h typed where
       by : (t : TimedCall) → NoneHolds (timedCauses t l answer) → Typed (timedCall t answer) → Timed m (partOf t m)
-      by (plain k) h typed = plain-timed m k (omega (arith, ltb-false 65535 k (h .1 .1 .1 .0)))
-      by (mreq addr k) h typed = address-timed m addr k (ltb-false 65535 k (h .1 .1 .1 .0))
-      by (noMreq addr k) h typed = address-timed m addr k (ltb-false 65535 k (h .1 .1 .1 .0))
+      by (plain k) h typed = plain-timed m k (omega (arith, ltb-false longestWait k (h .1 .1 .1 .0)))
+      by (mreq addr k) h typed = address-timed m addr k (ltb-false longestWait k (h .1 .1 .1 .0))
+      by (noMreq addr k) h typed = address-timed m addr k (ltb-false longestWait k (h .1 .1 .1 .0))
       by (portIn devices port) h typed = read-timed m port
       by (portOut devices port value) h typed = write-timed m (devicesOf devices) port value (typed .1)
 
     -- with passed frames that have room
-    room-left : w .core .passed < 4294967295
+    room-left : HasRoom (w .core .passed)
     room-left = by t h where
-      less : (bus : Bus) → bus ≡ busOf m w → eqb (bus .passed) 4294967295 ≡ false → w .core .passed < 4294967295
-      less bus e f = let z = eqb-false (bus .passed) 4294967295 f in let same : bus .passed ≡ w .core .passed = ap (λ (b : Bus). b .passed) e in omega (arith, sound .passed, same)
+      less : (bus : Bus) → bus ≡ busOf m w → noRoom (bus .passed) ≡ false → HasRoom (w .core .passed)
+      less bus e f = let z = eqb-false (bus .passed) lastFrame f in let same : bus .passed ≡ w .core .passed = ap (λ (b : Bus). b .passed) e in omega (arith, sound .passed, same)
 
-      by : (t : TimedCall) → NoneHolds (timedCauses t l answer) → w .core .passed < 4294967295
+      by : (t : TimedCall) → NoneHolds (timedCauses t l answer) → HasRoom (w .core .passed)
       by (plain k) h = less (recordOf (l .state)) here (h .1 .1 .1 .1 .0)
       by (mreq addr k) h = less (recordOf (l .state)) here (h .1 .1 .1 .1 .0)
       by (noMreq addr k) h = less (recordOf (l .state)) here (h .1 .1 .1 .1 .0)
@@ -196,11 +197,11 @@ module _ (m : ZXMachine) (w : World) (sound : SoundWorld m w) (sized : Sized m w
         kept = poke-kept p value;
       }
 
-  load-fits : (bytes : List ℕ) (page : ℕ) → NoneHolds (causesOf (loadRam bytes page) l) → (length bytes ≡ 16384) × (16384 * page + 16384 ≤ length (w .core .ram))
+  load-fits : (bytes : List ℕ) (page : ℕ) → NoneHolds (causesOf (loadRam bytes page) l) → (length bytes ≡ pageLength) × (pageLength * page + pageLength ≤ length (w .core .ram))
   load-fits bytes page h =
-      let fit = each (ramFits (recordOf (l .state)) (length (l .ram))) (eqb (length bytes) 16384 ∷ []) (not-false _ (h .1 .1 .0)) in
+      let fit = each (ramFits (recordOf (l .state)) (length (l .ram))) (eqb (length bytes) pageLength ∷ []) (not-false _ (h .1 .1 .0)) in
       let there = exists-fits m page (ap (λ (b : Bus). pageExists (b .machine) page) (sym here) ∙ not-false _ (h .1 .1 .1 .0)) in
-      (eqb-true (length bytes) 16384 (fit 1), omega (arith, there, sized .ram))
+      (eqb-true (length bytes) pageLength (fit 1), omega (arith, there, sized .ram))
 
   load-world : (bytes : List ℕ) (page : ℕ) → withRam l (loaded page bytes (w .core .ram)) ≡ lentBy m (worldAfter m (load page bytes ∷ []) w)
   unfolding worldAfter inCore inScreen inEdge

@@ -3,7 +3,7 @@
 -- Assumes nothing.
 use Prim.Native.Nat.{ℕ, _+_, _*_, _≤_, _<_}
 use mathlib.Core.Path.{_≡_, refl, ap, _∙_}
-use mathlib.Core.Bool.{true}
+use mathlib.Core.Bool.{Bool, true}
 use mathlib.Core.List.{List, []}
 use lib.ListN.{length}
 use native.Mathlib.Omega.{arith}
@@ -11,7 +11,7 @@ use borrow.Author.Tests.{eq-eqb, ne-eqb, leb-true}
 use Rattle.machine.specs.declared.ZXMachine.{ZXMachine}
 use Rattle.machine.specs.declared.ZXMachine.the-variants.{Sinclair48K, Sinclair128K}
 use Rattle.record.specs.declared.Bus.{Bus}
-use Rattle.record.specs.Record.{recordBytes}
+use Rattle.record.specs.Record.{recordBytes, withPaging}
 use Rattle.memory.specs.declared.Paged.{Paged}
 use Rattle.memory.specs.declared.Page.{Page}
 use Rattle.memory.specs.declared.Page.the-variants as page
@@ -26,9 +26,9 @@ use Rattle.answers.specs.declared.Refusal.the-variants.{BadLength, BadNumber}
 use Rattle.answers.specs.declared.Verdict.{Verdict}
 use Rattle.answers.specs.declared.Verdict.the-variants.{Refused, Accepted}
 use Rattle.answers.specs.Refusals.{refusalNumber}
-use Rattle.answers.specs.Answers.{numberAnswer, refusedAnswer}
-use Rattle.answers.specs.Ready.{ReadyLoad, ReadyRamPage, ReadyRamPageTold, ReadyBlock, ReadyStill}
-use Rattle.contracts.specs.Plain.{told, tell, changed, change, withPaging, repaged, repage, part, stillPage}
+use Rattle.answers.specs.Answers.{numberAnswer, refusedAnswer, numberLength}
+use Rattle.answers.specs.Ready.{ReadyLoad, ReadyRamPage, ReadyBlock, ReadyStill}
+use Rattle.contracts.specs.Plain.{told, tell, changed, change, repaged, repage, part, stillPage}
 use Rattle.contracts.specs.Helpers.{helperCall}
 
 module _ (v j : Verdict) (judged : v ≡ j) where
@@ -69,22 +69,22 @@ module _ (v j : Verdict) (judged : v ≡ j) where
 
 -- ---- the helpers
 module _ (h : Helped) (answer : List ℕ) where
-  pub help-number : (left : List ℕ) (n : ℕ) → length answer ≡ 5 → h ≡ helped.Number n → left ≡ numberAnswer n → told 0 left ≡ helperCall h answer
+  pub help-number : (left : List ℕ) (n : ℕ) → length answer ≡ numberLength → h ≡ helped.Number n → left ≡ numberAnswer n → told 0 left ≡ helperCall h answer
   unfolding helperCall
   help-number left n l p q = rw (eq-eqb (length answer) 5 l, p, q)
 
-  pub help-refused : (left : List ℕ) (r : ℕ) → length answer ≡ 5 → h ≡ helped.OutOfRange
+  pub help-refused : (left : List ℕ) (r : ℕ) → length answer ≡ numberLength → h ≡ helped.OutOfRange
       → (r ≡ refusalNumber BadNumber) × (left ≡ refusedAnswer 5 (refusalNumber BadNumber) answer) → told r left ≡ helperCall h answer
   unfolding helperCall
   help-refused left r l p q = rw (eq-eqb (length answer) 5 l, p, q .0, q .1)
 
-  pub help-alone : (r : ℕ) → (length answer ≡ 5 → ⊥) → r ≡ refusalNumber BadLength → told r answer ≡ helperCall h answer
+  pub help-alone : (r : ℕ) → (length answer ≡ numberLength → ⊥) → r ≡ refusalNumber BadLength → told r answer ≡ helperCall h answer
   unfolding helperCall
   help-alone r n q = rw (ne-eqb (length answer) 5 n, q)
 
 -- ---- what an accepted call may ask of the memory
 -- a RAM page that is there is whole in RAM, and its number is one byte
-pub page-fits : {state : List ℕ} {ram number : ℕ} {bus : Bus} → ReadyRamPage state ram number bus → 16384 * number + 16384 ≤ ram
+pub page-fits : {state : List ℕ} {ram number : ℕ} {fits : Bool} {bus : Bus} → ReadyRamPage state ram number fits bus → 16384 * number + 16384 ≤ ram
 page-fits {number = number} {bus = bus} r = rw (r .ramIs) (exists-fits (bus .machine) number (r .exists))
 
 pub load-fits : {state : List ℕ} {ram bytes number : ℕ} {bus : Bus} → ReadyLoad state ram bytes number bus → (bytes ≡ 16384) × (16384 * number + 16384 ≤ ram)
@@ -94,11 +94,11 @@ small : (m : ZXMachine) (number : ℕ) → pageExists m number ≡ true → numb
 small Sinclair48K number e = omega (arith, leb-true number 2 e)
 small Sinclair128K number e = omega (arith, leb-true number 7 e)
 
-pub page-small : {state : List ℕ} {ram number answer : ℕ} {bus : Bus} → ReadyRamPageTold state ram number answer bus → number < 8
-page-small {number = number} {bus = bus} r = small (bus .machine) number (r .part .exists)
+pub page-small : {state : List ℕ} {ram number : ℕ} {fits : Bool} {bus : Bus} → ReadyRamPage state ram number fits bus → number < 8
+page-small {number = number} {bus = bus} r = small (bus .machine) number (r .exists)
 
 -- so is the page at a block
-pub block-holds : {state : List ℕ} {rom ram number : ℕ} {bus : Bus} (p : Page) → ReadyBlock state rom ram number bus
+pub block-holds : {state : List ℕ} {rom ram number : ℕ} {fits : Bool} {bus : Bus} (p : Page) → ReadyBlock state rom ram number fits bus
     → p ≡ pageAt (bus .machine) (bus .paging) number → Holds p rom ram
 block-holds {number = number} {bus = bus} p r e = rw (e, r .romIs, r .ramIs) (map-holds (bus .machine) (bus .paging) number)
 

@@ -3,6 +3,7 @@
 -- Assumes nothing.
 use Prim.Native.Nat.{ℕ, _+_, _*_, _/_, _%_, _<_, _^_}
 use mathlib.Core.Path.{_≡_, refl, sym, ap, _∙_}
+use mathlib.Core.Bool.{true}
 use mathlib.Core.List.{List, [], _∷_}
 use native.Mathlib.Omega.{arith}
 use borrow.Author.Tests.{le-ltb}
@@ -15,7 +16,7 @@ use Rattle.machine.specs.Numbers.{specsOf}
 use Rattle.machine.specs.Timing.{delay}
 use Rattle.machine.specs.Contended.{portContended}
 use Rattle.record.specs.declared.Bus.{Bus}
-use Rattle.record.specs.Record.{machineNumber, machineOf, recordBytes, recordOf}
+use Rattle.record.specs.Record.{machineNumber, machineOf, recordBytes, recordOf, withPaging, withPassed}
 use Rattle.memory.specs.declared.Page.{Page}
 use Rattle.memory.specs.declared.Page.the-variants as page
 use Rattle.memory.specs.declared.Paged.{Paged}
@@ -36,13 +37,13 @@ use Rattle.bus.specs.Calls.{contended, plainWait, delayed, addressWait, firstPa
 use Rattle.bus.proofs.Runs.{ran-machine, ran-core, core-then}
 use Rattle.answers.specs.declared.Verdict.{Verdict}
 use Rattle.answers.specs.declared.Verdict.the-variants.{Refused, Accepted}
-use Rattle.answers.specs.Judges.{judgeState, judgeTold, judgeRead, judgeRamPage, judgeRamPageTold, judgeBlock, judgeBlockTold}
+use Rattle.answers.specs.Judges.{judgeState, judgeTold, judgeRead, numberFits, judgeRamPage, judgeBlock}
 use Rattle.answers.specs.Answers.{numberAnswer}
 use Rattle.answers.specs.Ready.{OnRecord}
-use Rattle.answers.proofs.Order.{read-ordered, block-told-ordered}
-use Rattle.answers.proofs.Accepted.{ready-wait, ready-port, ready-state, ready-told, ready-read, ready-ram-page-told, ready-block, ready-block-told}
+use Rattle.answers.proofs.Order.{read-ordered, block-ordered}
+use Rattle.answers.proofs.Accepted.{ready-wait, ready-port, ready-state, ready-told, ready-read, ready-ram-page, ready-block}
 use Rattle.contracts.specs.Timed.{Lent, lentWorld, timed, judgeWaitOf, judgePortOf, waitInternal, waitAt, readIo, writeIo}
-use Rattle.contracts.specs.Plain.{told, tell, change, repage, withPaging, withPassed, readInternal, write7ffdCall, resetFrames, part, ramPagePart, blockPart, ramPageTold, blockTold}
+use Rattle.contracts.specs.Plain.{told, tell, change, repage, readInternal, write7ffdCall, resetFrames, part, ramPagePart, blockPart, ramPageTold, blockTold}
 use Rattle.contracts.specs.Map.{numberIn, codeIn, Named, MapOf, counted, mapped, Alike, renews, Quiet, waited, waitedAt, readPort, wrotePort, wrote7ffd, reset, AllQuiet, last}
 use Rattle.contracts.proofs.Parts.{number-back, told-bus, start-small}
 
@@ -69,12 +70,12 @@ named-start : (state : List ℕ) (block start : ℕ) → Named state block start
 unfolding blockTold
 named-start state block start n =
     let number : Bus → ℕ = λ bus. partStart (bus .machine) (pageAt (bus .machine) (bus .paging) block) in
-    let v = judgeBlockTold state (length (n .rom)) (length (n .ram)) block (length (n .answer)) in
+    let v = judgeBlock state (length (n .rom)) (length (n .ram)) block (numberFits (length (n .answer))) in
     let t = told-bus number (n .answer) v (n .accepted) in
     let bus = t .0 in
-    let r = ready-block-told state bus (length (n .rom)) (length (n .ram)) block (length (n .answer)) (t .1) in
+    let r = ready-block state bus (length (n .rom)) (length (n .ram)) block (numberFits (length (n .answer))) (t .1) in
     let small = start-small (bus .machine) (pageAt (bus .machine) (bus .paging) block) (map-holds (bus .machine) (bus .paging) block) in
-    sym (n .names) ∙ number-told number (n .answer) v bus (t .1) small ∙ ap number (sym (r .part .onRecord .decodes))
+    sym (n .names) ∙ number-told number (n .answer) v bus (t .1) small ∙ ap number (sym (r .onRecord .decodes))
 
 -- and the one that an accepted call of `ulb_ram_page` names
 ram-page-start : (state : List ℕ) (number start : ℕ) (ram answer : List ℕ) → ramPageTold state ram number answer .code ≡ 0
@@ -82,10 +83,10 @@ ram-page-start : (state : List ℕ) (number start : ℕ) (ram answer : List ℕ)
 unfolding ramPageTold
 ram-page-start state number start ram answer c n =
     let starts : Bus → ℕ = λ bus. partStart (bus .machine) (page.Ram number) in
-    let v = judgeRamPageTold state (length ram) number (length answer) in
+    let v = judgeRamPage state (length ram) number (numberFits (length answer)) in
     let t = told-bus starts answer v c in
     let bus = t .0 in
-    let r = ready-ram-page-told state bus (length ram) number (length answer) (t .1) .part in
+    let r = ready-ram-page state bus (length ram) number (numberFits (length answer)) (t .1) in
     let small = start-small (bus .machine) (page.Ram number) (exists-fits (bus .machine) number (r .exists)) in
     sym n ∙ number-told starts answer v bus (t .1) small ∙ ap starts (sym (r .onRecord .decodes))
 
@@ -167,8 +168,8 @@ module _ (made held rom ram answer : List ℕ) (block offset : ℕ) (inside : of
   unfolding blockPart
   block-part-reads n a =
       let whole : Bus → List ℕ = λ bus. pagePart (pageAt (bus .machine) (bus .paging) block) rom ram in
-      let t = handed whole (judgeBlock made (length rom) (length ram) block) n in
-      let k = ready-block made (t .0) (length rom) (length ram) block (t .1) .onRecord .decodes in
+      let t = handed whole (judgeBlock made (length rom) (length ram) block true) n in
+      let k = ready-block made (t .0) (length rom) (length ram) block true (t .1) .onRecord .decodes in
       rw (read-is held rom ram (16384 * block + offset) answer accepted, t .1, ← k, ← a .machine, ← a .paging)
       (ap (λ (x : ℕ). told 0 (numberAnswer x)) (sym (block-bytes (recordOf made .machine) (recordOf made .paging) rom ram block offset inside)))
 
@@ -178,7 +179,7 @@ module _ (made held rom ram answer : List ℕ) (block offset : ℕ) (inside : of
       → readInternal held rom ram (16384 * block + offset) answer ≡ told 0 (numberAnswer (getD (ramPagePart made ram number) offset 0))
   unfolding ramPagePart
   ram-page-part-reads number n p =
-      let t = handed (λ bus. ramPage number ram) (judgeRamPage made (length ram) number) n in
+      let t = handed (λ bus. ramPage number ram) (judgeRamPage made (length ram) number true) n in
       let b = block-bytes (recordOf held .machine) (recordOf held .paging) rom ram block offset inside in
       rw (read-is held rom ram (16384 * block + offset) answer accepted, t .1) (ap (λ (x : ℕ). told 0 (numberAnswer x)) (sym (rw p at b)))
 
@@ -191,7 +192,7 @@ unfolding blockTold
 map-made state rom ram answer addr c block h =
     let t = verdict-bus state rom ram addr answer c in
     let n = read-ordered state (length rom) (length ram) (length answer) .acceptedByNone (t .0) (t .1) .0 in
-    let v = block-told-ordered state (length rom) (length ram) block (length answer) .noneAccepts (n .0, (n .1 .0, (n .1 .1 .0, (le-ltb 3 block h, tt)))) in
+    let v = block-ordered state (length rom) (length ram) block (numberFits (length answer)) .noneAccepts (n .0, (n .1 .0, (n .1 .1 .0, (le-ltb 3 block h, tt)))) in
     record { rom = rom; ram = ram; answer = answer; accepted = rw v; names = refl }
 
 -- THE MAP: made once by `ulb_block` of a record, it answers at every address as `ulb_read_internal` does, of any record with the same machine

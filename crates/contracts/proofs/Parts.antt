@@ -4,17 +4,17 @@
 -- Assumes nothing.
 use Prim.Native.Nat.{ℕ, _^_, _<_}
 use mathlib.Core.Path.{_≡_, refl, sym, ap, subst, _∙_}
-use mathlib.Core.Bool.{Bool, true, false, cond, not, _&&_, false≢true}
-use mathlib.Core.List.{List, [], _∷_, _++_}
+use mathlib.Core.Bool.{Bool, true, false, cond}
+use mathlib.Core.List.{List, [], _++_}
 use native.Mathlib.Omega.{arith}
 use borrow.Author.Tests.{eq-eqb}
-use lib.Dec.{ltb}
 use lib.ListN.{length, take, drop}
 use lib.Seq.{take-at, drop-at, take-length}
 use Rattle.laws.proofs.Words.{long-back}
 use Rattle.machine.specs.declared.ZXMachine.{ZXMachine}
 use Rattle.machine.specs.declared.ZXMachine.the-variants.{Sinclair48K, Sinclair128K}
 use Rattle.machine.specs.Numbers.{specsOf}
+use Rattle.machine.specs.Limits.{pictureLength, pageLength}
 use Rattle.record.specs.declared.Bus.{Bus}
 use Rattle.record.specs.Record.{recordOf}
 use Rattle.memory.specs.declared.Page.{Page}
@@ -24,14 +24,10 @@ use Rattle.memory.specs.Memory.{Holds, ramPage, pagePart, partStart}
 use Rattle.memory.proofs.Places.{exists-fits, map-holds}
 use Rattle.memory.proofs.Stored.{length-part, part-found}
 use Rattle.bus.specs.Time.{showsA}
-use Rattle.answers.specs.declared.Refusal.the-variants.{BadNumber}
 use Rattle.answers.specs.declared.Verdict.{Verdict}
 use Rattle.answers.specs.declared.Verdict.the-variants.{Refused, Accepted}
-use Rattle.answers.specs.Refusals.{Cause, cause}
-use Rattle.answers.specs.Judges.{ramFits, romFits, pictureFits, numberFits, unless, badPage, judgeRamPage, judgeRamPageTold, judgeBlock, judgeBlockTold, judgeShown, judgeShownTold}
-use Rattle.answers.specs.Answers.{numberAnswer}
-use Rattle.answers.specs.Order.{Ordered}
-use Rattle.answers.proofs.Order.{ram-page-ordered, ram-page-told-ordered, block-ordered, block-told-ordered, shown-ordered, shown-told-ordered}
+use Rattle.answers.specs.Judges.{numberFits, judgeRamPage, judgeBlock, judgeShown}
+use Rattle.answers.specs.Answers.{numberAnswer, numberLength}
 use Rattle.answers.proofs.Accepted.{ready-ram-page, ready-block, ready-shown}
 use Rattle.contracts.specs.Map.{numberIn}
 use Rattle.contracts.specs.Plain.{tell, part, ramPagePart, blockPart, shownPart, ramPageTold, blockTold, shownTold}
@@ -40,41 +36,15 @@ use Rattle.contracts.proofs.Refusals.{not-zero}
 pub number-back : (n : ℕ) → n < 2 ^ 32 → numberIn (numberAnswer n) ≡ n
 number-back n h = long-back n h
 
--- ---- the two judgements: C's asks for the answer's length besides
-not-left : (a b : Bool) → not (a && b) ≡ false → not a ≡ false
-not-left true b e = refl
-not-left false b e = e
-
-not-both : (a b : Bool) → not a ≡ false → b ≡ true → not (a && b) ≡ false
-not-both true true p q = refl
-not-both true false p q = absurd (false≢true q)
-not-both false b p q = p
-
-module _ (v w : Verdict) (first second : Cause) (fit answered : Bool) (rest : List Cause) (bus : Bus)
-    (plain : Ordered v (first ∷ second ∷ unless fit ∷ rest) bus) (lent : Ordered w (first ∷ second ∷ unless (fit && answered) ∷ rest) bus) where
-  -- what C is told, a Rattle caller gets
-  both-accept : (b : Bus) → w ≡ Accepted b → v ≡ Accepted b
-  both-accept b p =
-      let n = lent .acceptedByNone b p in
-      subst (λ (x : Bus). v ≡ Accepted x) (sym (n .1))
-      (plain .noneAccepts (n .0 .0, (n .0 .1 .0, (not-left fit answered (n .0 .1 .1 .0), n .0 .1 .1 .1))))
-
-  -- and what a Rattle caller gets, C is told, given an answer of five bytes
-  accept-both : (b : Bus) → answered ≡ true → v ≡ Accepted b → w ≡ Accepted b
-  accept-both b t p =
-      let n = plain .acceptedByNone b p in
-      subst (λ (x : Bus). w ≡ Accepted x) (sym (n .1))
-      (lent .noneAccepts (n .0 .0, (n .0 .1 .0, (not-both fit answered (n .0 .1 .1 .0) t, n .0 .1 .1 .1))))
-
 pub told-bus : (number : Bus → ℕ) (answer : List ℕ) (w : Verdict) → tell number answer w .code ≡ 0 → (bus : Bus) × (w ≡ Accepted bus)
 told-bus number answer (Refused e) p = absurd (not-zero e p)
 told-bus number answer (Accepted bus) p = (bus, refl)
 
--- where every acceptance would be told, a call that is not told hands back nothing
-none-handed : (number : Bus → ℕ) (whole : Bus → List ℕ) (answer : List ℕ) (v w : Verdict) → ((b : Bus) → v ≡ Accepted b → w ≡ Accepted b)
+-- C's verdict is the Rattle caller's where its answer has five bytes: then a call that is not told hands back nothing
+none-handed : (number : Bus → ℕ) (whole : Bus → List ℕ) (answer : List ℕ) (v w : Verdict) → v ≡ w
     → (tell number answer w .code ≡ 0 → ⊥) → part whole v ≡ []
 none-handed number whole answer (Refused e) w f n = refl
-none-handed number whole answer (Accepted b) w f n = absurd (n (rw (f b refl)))
+none-handed number whole answer (Accepted b) w f n = absurd (n (rw (← f)))
 
 -- ---- where a page starts fits 32 bits
 pub start-small : (m : ZXMachine) (p : Page) → Holds p (specsOf m .rom) (specsOf m .ram) → partStart m p < 2 ^ 32
@@ -86,7 +56,7 @@ start-small Sinclair128K (page.Ram p) h = omega arith
 -- a page by its number told, of a ROM and a RAM of the machine's lengths
 page-told : (m : ZXMachine) (p : Page) (rom ram : List ℕ) → length rom ≡ specsOf m .rom → length ram ≡ specsOf m .ram
     → Holds p (specsOf m .rom) (specsOf m .ram)
-    → (pagePart p rom ram ≡ take 16384 (drop (numberIn (numberAnswer (partStart m p))) (rom ++ ram))) × (length (pagePart p rom ram) ≡ 16384)
+    → (pagePart p rom ram ≡ take pageLength (drop (numberIn (numberAnswer (partStart m p))) (rom ++ ram))) × (length (pagePart p rom ram) ≡ pageLength)
 page-told m p rom ram r n h =
     let f : Holds p (length rom) (length ram) = rw (r, n) h in
     (rw (number-back (partStart m p) (start-small m p h)) (sym (part-found m p rom ram r f)), length-part p rom ram f)
@@ -103,127 +73,88 @@ module _ (state ram answer : List ℕ) (number : ℕ) where
   abbrev ram-page-start : Bus → ℕ
   ram-page-start bus = partStart (bus .machine) (page.Ram number)
 
-  abbrev ram-page-plain : Verdict
-  ram-page-plain = judgeRamPage state (length ram) number
+  abbrev ram-page-verdict : Bool → Verdict
+  ram-page-verdict fits = judgeRamPage state (length ram) number fits
 
-  abbrev ram-page-lent : Verdict
-  ram-page-lent = judgeRamPageTold state (length ram) number (length answer)
-
-  ram-page-both : (b : Bus) → ram-page-lent ≡ Accepted b → ram-page-plain ≡ Accepted b
-  ram-page-both b p =
-      both-accept ram-page-plain ram-page-lent _ _ (ramFits (recordOf state) (length ram)) (numberFits (length answer)) (badPage (recordOf state) number ∷ [])
-      (recordOf state) (ram-page-ordered state (length ram) number) (ram-page-told-ordered state (length ram) number (length answer)) b p
-
-  ram-page-told : (bus : Bus) → ram-page-lent ≡ Accepted bus → (rom : List ℕ) → length rom ≡ specsOf (recordOf state .machine) .rom
-      → (ramPagePart state ram number ≡ take 16384 (drop (numberIn (ramPageTold state ram number answer .answer)) (rom ++ ram)))
-      × (length (ramPagePart state ram number) ≡ 16384)
+  ram-page-told : (bus : Bus) → ram-page-verdict (numberFits (length answer)) ≡ Accepted bus → (rom : List ℕ) → length rom ≡ specsOf (recordOf state .machine) .rom
+      → (ramPagePart state ram number ≡ take pageLength (drop (numberIn (ramPageTold state ram number answer .answer)) (rom ++ ram)))
+      × (length (ramPagePart state ram number) ≡ pageLength)
   unfolding ramPageTold ramPagePart
   ram-page-told bus p rom r =
-      let v = ram-page-both bus p in
-      let k = ready-ram-page state bus (length ram) number v in
+      let k = ready-ram-page state bus (length ram) number (numberFits (length answer)) p in
       let m = bus .machine in
-      rw (v, p)
+      rw (rw (k .answerFits) at p, p)
       (page-told m (page.Ram number) rom ram (r ∙ ap (λ (x : Bus). specsOf (x .machine) .rom) (k .onRecord .decodes)) (k .ramIs) (exists-fits m number (k .exists)))
 
   -- told: whatever ROM of the machine's length C counts before RAM, the bytes from the number on are the page
   pub ram-page-found : ramPageTold state ram number answer .code ≡ 0 → (rom : List ℕ) → length rom ≡ specsOf (recordOf state .machine) .rom
-      → (ramPagePart state ram number ≡ take 16384 (drop (numberIn (ramPageTold state ram number answer .answer)) (rom ++ ram)))
-      × (length (ramPagePart state ram number) ≡ 16384)
+      → (ramPagePart state ram number ≡ take pageLength (drop (numberIn (ramPageTold state ram number answer .answer)) (rom ++ ram)))
+      × (length (ramPagePart state ram number) ≡ pageLength)
   unfolding ramPageTold
-  ram-page-found c rom r = let t = told-bus ram-page-start answer ram-page-lent c in ram-page-told (t .0) (t .1) rom r
+  ram-page-found c rom r = let t = told-bus ram-page-start answer (ram-page-verdict (numberFits (length answer))) c in ram-page-told (t .0) (t .1) rom r
 
   -- not told: the part is empty
-  pub ram-page-empty : length answer ≡ 5 → (ramPageTold state ram number answer .code ≡ 0 → ⊥) → ramPagePart state ram number ≡ []
+  pub ram-page-empty : length answer ≡ numberLength → (ramPageTold state ram number answer .code ≡ 0 → ⊥) → ramPagePart state ram number ≡ []
   unfolding ramPageTold ramPagePart
   ram-page-empty l n =
-      none-handed ram-page-start (λ bus. ramPage number ram) answer ram-page-plain ram-page-lent
-      (λ b p. accept-both ram-page-plain ram-page-lent _ _ (ramFits (recordOf state) (length ram)) (numberFits (length answer)) (badPage (recordOf state) number ∷ [])
-      (recordOf state) (ram-page-ordered state (length ram) number) (ram-page-told-ordered state (length ram) number (length answer)) b (eq-eqb (length answer) 5 l) p)
-      n
+      none-handed ram-page-start (λ bus. ramPage number ram) answer (ram-page-verdict true) (ram-page-verdict (numberFits (length answer)))
+      (ap ram-page-verdict (sym (eq-eqb (length answer) numberLength l))) n
 
 -- ---- block
 module _ (state rom ram answer : List ℕ) (number : ℕ) where
   abbrev block-start : Bus → ℕ
   block-start bus = partStart (bus .machine) (pageAt (bus .machine) (bus .paging) number)
 
-  abbrev block-plain : Verdict
-  block-plain = judgeBlock state (length rom) (length ram) number
+  abbrev block-verdict : Bool → Verdict
+  block-verdict fits = judgeBlock state (length rom) (length ram) number fits
 
-  abbrev block-lent : Verdict
-  block-lent = judgeBlockTold state (length rom) (length ram) number (length answer)
-
-  abbrev block-fit : Bool
-  block-fit = romFits (recordOf state) (length rom) && ramFits (recordOf state) (length ram)
-
-  block-both : (b : Bus) → block-lent ≡ Accepted b → block-plain ≡ Accepted b
-  block-both b p =
-      both-accept block-plain block-lent _ _ block-fit (numberFits (length answer)) (cause BadNumber (ltb 3 number) ∷ []) (recordOf state)
-      (block-ordered state (length rom) (length ram) number) (block-told-ordered state (length rom) (length ram) number (length answer)) b p
-
-  block-told : (bus : Bus) → block-lent ≡ Accepted bus
-      → (blockPart state rom ram number ≡ take 16384 (drop (numberIn (blockTold state rom ram number answer .answer)) (rom ++ ram)))
-      × (length (blockPart state rom ram number) ≡ 16384)
+  block-told : (bus : Bus) → block-verdict (numberFits (length answer)) ≡ Accepted bus
+      → (blockPart state rom ram number ≡ take pageLength (drop (numberIn (blockTold state rom ram number answer .answer)) (rom ++ ram)))
+      × (length (blockPart state rom ram number) ≡ pageLength)
   unfolding blockTold blockPart
   block-told bus p =
-      let v = block-both bus p in
-      let k = ready-block state bus (length rom) (length ram) number v in
+      let k = ready-block state bus (length rom) (length ram) number (numberFits (length answer)) p in
       let m = bus .machine in
-      rw (v, p) (page-told m (pageAt m (bus .paging) number) rom ram (k .romIs) (k .ramIs) (map-holds m (bus .paging) number))
+      rw (rw (k .answerFits) at p, p) (page-told m (pageAt m (bus .paging) number) rom ram (k .romIs) (k .ramIs) (map-holds m (bus .paging) number))
 
   -- told: the bytes from the number on, of the lent ROM with the lent RAM behind it, are the block's 16 KiB
   pub block-found : blockTold state rom ram number answer .code ≡ 0
-      → (blockPart state rom ram number ≡ take 16384 (drop (numberIn (blockTold state rom ram number answer .answer)) (rom ++ ram)))
-      × (length (blockPart state rom ram number) ≡ 16384)
+      → (blockPart state rom ram number ≡ take pageLength (drop (numberIn (blockTold state rom ram number answer .answer)) (rom ++ ram)))
+      × (length (blockPart state rom ram number) ≡ pageLength)
   unfolding blockTold
-  block-found c = let t = told-bus block-start answer block-lent c in block-told (t .0) (t .1)
+  block-found c = let t = told-bus block-start answer (block-verdict (numberFits (length answer))) c in block-told (t .0) (t .1)
 
   -- not told: the part is empty
-  pub block-empty : length answer ≡ 5 → (blockTold state rom ram number answer .code ≡ 0 → ⊥) → blockPart state rom ram number ≡ []
+  pub block-empty : length answer ≡ numberLength → (blockTold state rom ram number answer .code ≡ 0 → ⊥) → blockPart state rom ram number ≡ []
   unfolding blockTold blockPart
   block-empty l n =
-      none-handed block-start (λ bus. pagePart (pageAt (bus .machine) (bus .paging) number) rom ram) answer block-plain block-lent
-      (λ b p. accept-both block-plain block-lent _ _ block-fit (numberFits (length answer)) (cause BadNumber (ltb 3 number) ∷ []) (recordOf state)
-      (block-ordered state (length rom) (length ram) number) (block-told-ordered state (length rom) (length ram) number (length answer)) b (eq-eqb (length answer) 5 l) p)
-      n
+      none-handed block-start (λ bus. pagePart (pageAt (bus .machine) (bus .paging) number) rom ram) answer (block-verdict true)
+      (block-verdict (numberFits (length answer))) (ap block-verdict (sym (eq-eqb (length answer) numberLength l))) n
 
 -- ---- shown picture
 module _ (state a b answer : List ℕ) where
   abbrev shown-start : Bus → ℕ
-  shown-start bus = cond (showsA (bus .phase)) 0 49152
+  shown-start bus = cond (showsA (bus .phase)) 0 pictureLength
 
-  abbrev shown-plain : Verdict
-  shown-plain = judgeShown state (length a) (length b)
+  abbrev shown-verdict : Bool → Verdict
+  shown-verdict fits = judgeShown state (length a) (length b) fits
 
-  abbrev shown-lent : Verdict
-  shown-lent = judgeShownTold state (length a) (length b) (length answer)
-
-  abbrev shown-fit : Bool
-  shown-fit = pictureFits (length a) && pictureFits (length b)
-
-  shown-both : (x : Bus) → shown-lent ≡ Accepted x → shown-plain ≡ Accepted x
-  shown-both x p =
-      both-accept shown-plain shown-lent _ _ shown-fit (numberFits (length answer)) [] (recordOf state)
-      (shown-ordered state (length a) (length b)) (shown-told-ordered state (length a) (length b) (length answer)) x p
-
-  shown-told : (bus : Bus) → shown-lent ≡ Accepted bus
-      → (shownPart state a b ≡ take 49152 (drop (numberIn (shownTold state a b answer .answer)) (a ++ b))) × (length (shownPart state a b) ≡ 49152)
+  shown-told : (bus : Bus) → shown-verdict (numberFits (length answer)) ≡ Accepted bus
+      → (shownPart state a b ≡ take pictureLength (drop (numberIn (shownTold state a b answer .answer)) (a ++ b))) × (length (shownPart state a b) ≡ pictureLength)
   unfolding shownTold shownPart
   shown-told bus p =
-      let v = shown-both bus p in
-      let k = ready-shown state bus (length a) (length b) v in
-      rw (v, p) (picture-told (showsA (bus .phase)) 49152 a b (omega arith) (k .aIs) (k .bIs))
+      let k = ready-shown state bus (length a) (length b) (numberFits (length answer)) p in
+      rw (rw (k .answerFits) at p, p) (picture-told (showsA (bus .phase)) pictureLength a b (omega arith) (k .aIs) (k .bIs))
 
   -- told: the bytes from the number on, of picture A with B behind it, are the shown picture
   pub shown-found : shownTold state a b answer .code ≡ 0
-      → (shownPart state a b ≡ take 49152 (drop (numberIn (shownTold state a b answer .answer)) (a ++ b))) × (length (shownPart state a b) ≡ 49152)
+      → (shownPart state a b ≡ take pictureLength (drop (numberIn (shownTold state a b answer .answer)) (a ++ b))) × (length (shownPart state a b) ≡ pictureLength)
   unfolding shownTold
-  shown-found c = let t = told-bus shown-start answer shown-lent c in shown-told (t .0) (t .1)
+  shown-found c = let t = told-bus shown-start answer (shown-verdict (numberFits (length answer))) c in shown-told (t .0) (t .1)
 
   -- not told: the part is empty
-  pub shown-empty : length answer ≡ 5 → (shownTold state a b answer .code ≡ 0 → ⊥) → shownPart state a b ≡ []
+  pub shown-empty : length answer ≡ numberLength → (shownTold state a b answer .code ≡ 0 → ⊥) → shownPart state a b ≡ []
   unfolding shownTold shownPart
   shown-empty l n =
-      none-handed shown-start (λ bus. cond (showsA (bus .phase)) a b) answer shown-plain shown-lent
-      (λ x p. accept-both shown-plain shown-lent _ _ shown-fit (numberFits (length answer)) [] (recordOf state)
-      (shown-ordered state (length a) (length b)) (shown-told-ordered state (length a) (length b) (length answer)) x (eq-eqb (length answer) 5 l) p)
-      n
+      none-handed shown-start (λ bus. cond (showsA (bus .phase)) a b) answer (shown-verdict true) (shown-verdict (numberFits (length answer)))
+      (ap shown-verdict (sym (eq-eqb (length answer) numberLength l))) n

@@ -26,10 +26,10 @@ use Rattle.answers.specs.declared.Refusal.the-variants.{BadMachine, BadLength, 
 use Rattle.answers.specs.declared.Verdict.{Verdict}
 use Rattle.answers.specs.declared.Verdict.the-variants.{Refused, Accepted}
 use Rattle.answers.specs.Refusals.{refusalNumber, Cause, cause, judged}
-use Rattle.answers.specs.Judges.{numberFits, unless, judgeState, judgeTold, judgeRead, judgeWrite, judgeLoad, judgeRamPageTold, judgeBlockTold, judgeShownTold, judgeStill}
-use Rattle.answers.specs.Answers.{refusedAnswer}
-use Rattle.answers.specs.Order.{Ordered, Numbered, documentOrder, numbersOf, standIn, stateCauses, waitCauses, portCauses, toldCauses, readCauses, writeCauses, loadCauses, ramPageToldCauses, blockToldCauses, shownToldCauses, stillCauses}
-use Rattle.answers.proofs.Order.{by-list, state-ordered, wait-ordered, port-ordered, told-ordered, read-ordered, write-ordered, load-ordered, ram-page-told-ordered, block-told-ordered, shown-told-ordered, still-ordered}
+use Rattle.answers.specs.Judges.{numberFits, unless, noCauses, waitCauses, portCauses, toldCauses, readCauses, writeCauses, loadCauses, ramPageCauses, blockCauses, shownCauses, stillCauses, judgeState, judgeTold, judgeRead, judgeWrite, judgeLoad, judgeRamPage, judgeBlock, judgeShown, judgeStill}
+use Rattle.answers.specs.Answers.{refusedAnswer, timedLength, numberLength}
+use Rattle.answers.specs.Order.{Ordered, Numbered, documentOrder, numbersOf, standIn, allCauses}
+use Rattle.answers.proofs.Order.{by-list, state-ordered, wait-ordered, port-ordered, told-ordered, read-ordered, write-ordered, load-ordered, ram-page-ordered, block-ordered, shown-ordered, still-ordered}
 use Rattle.contracts.specs.Timed.{Lent, Outcome, timed, judgeWaitOf, judgePortOf, waitInternal, waitAt, readIo, writeIo, lentBy, startFitsOf, Started, startLeaves, start}
 use Rattle.contracts.specs.Plain.{codeOf, Told, told, tell, Changed, change, Repaged, repage, readInternal, writeInternal, write7ffdCall, read7ffd, intActive, framesCount, resetFrames, loadPage, stillPicture, ramPageTold, blockTold, shownTold}
 use Rattle.contracts.specs.Calls.{startCauses, helperCauses}
@@ -91,7 +91,7 @@ module _ (part : ZXMachine → Part) (value : ZXMachine → Core → ℕ) (l : L
   timed-code (Accepted bus) o p = ap (λ (x : Outcome). x .code) p
 
   timed-kept : (v : Verdict) (o : Outcome) → o ≡ timed part value l answer v → (o .code ≡ 0 → ⊥)
-      → (o .slices ≡ l) × (o .answer ≡ refusedAnswer 10 (o .code) answer)
+      → (o .slices ≡ l) × (o .answer ≡ refusedAnswer timedLength (o .code) answer)
   unfolding timed
   timed-kept (Refused e) o p n = rw p (refl, refl)
   timed-kept (Accepted bus) o p n = absurd (n (ap (λ (x : Outcome). x .code) p))
@@ -101,7 +101,7 @@ module _ (number : Bus → ℕ) (answer : List ℕ) where
   told-code (Refused e) o p = ap (λ (x : Told). x .code) p
   told-code (Accepted bus) o p = ap (λ (x : Told). x .code) p
 
-  told-kept : (v : Verdict) (o : Told) → o ≡ tell number answer v → (o .code ≡ 0 → ⊥) → o .answer ≡ refusedAnswer 5 (o .code) answer
+  told-kept : (v : Verdict) (o : Told) → o ≡ tell number answer v → (o .code ≡ 0 → ⊥) → o .answer ≡ refusedAnswer numberLength (o .code) answer
   told-kept (Refused e) o p n = rw p
   told-kept (Accepted bus) o p n = absurd (n (ap (λ (x : Told). x .code) p))
 
@@ -120,52 +120,52 @@ module _ (value : ℕ) (state answer : List ℕ) where
   repaged-code (Accepted bus) o p = ap (λ (x : Repaged). x .code) p
 
   repaged-kept : (v : Verdict) (o : Repaged) → o ≡ repage value state answer v → (o .code ≡ 0 → ⊥)
-      → (o .state ≡ state) × (o .answer ≡ refusedAnswer 5 (o .code) answer)
+      → (o .state ≡ state) × (o .answer ≡ refusedAnswer numberLength (o .code) answer)
   repaged-kept (Refused e) o p n = rw p (refl, refl)
   repaged-kept (Accepted bus) o p n = absurd (n (ap (λ (x : Repaged). x .code) p))
 
 -- ---- every call
-pub wait-internal-numbered : (l : Lent) (clocks : ℕ) (answer : List ℕ) → Numbered (waitInternal l clocks answer .code) (waitCauses (l .state) (length (l .ram)) (length (l .a)) (length (l .b)) (length (l .border)) clocks (length answer))
+pub wait-internal-numbered : (l : Lent) (clocks : ℕ) (answer : List ℕ) → Numbered (waitInternal l clocks answer .code) (allCauses (l .state) (waitCauses (length (l .ram)) (length (l .a)) (length (l .b)) (length (l .border)) clocks (length answer)))
 unfolding waitInternal
 wait-internal-numbered l clocks answer = numbered (judgeWaitOf l clocks answer) _ _ _ (timed-code _ _ _ _ (judgeWaitOf l clocks answer) (waitInternal l clocks answer) refl) (wait-ordered (l .state) (length (l .ram)) (length (l .a)) (length (l .b)) (length (l .border)) clocks (length answer))
 
-pub wait-internal-unaltered : (l : Lent) (clocks : ℕ) (answer : List ℕ) → (waitInternal l clocks answer .code ≡ 0 → ⊥) → (waitInternal l clocks answer .slices ≡ l) × (waitInternal l clocks answer .answer ≡ refusedAnswer 10 (waitInternal l clocks answer .code) answer)
+pub wait-internal-unaltered : (l : Lent) (clocks : ℕ) (answer : List ℕ) → (waitInternal l clocks answer .code ≡ 0 → ⊥) → (waitInternal l clocks answer .slices ≡ l) × (waitInternal l clocks answer .answer ≡ refusedAnswer timedLength (waitInternal l clocks answer .code) answer)
 unfolding waitInternal
 wait-internal-unaltered l clocks answer n = timed-kept _ _ _ _ (judgeWaitOf l clocks answer) (waitInternal l clocks answer) refl n
 
-pub wait-at-numbered : (l : Lent) (addr clocks : ℕ) (answer : List ℕ) → Numbered (waitAt l addr clocks answer .code) (waitCauses (l .state) (length (l .ram)) (length (l .a)) (length (l .b)) (length (l .border)) clocks (length answer))
+pub wait-at-numbered : (l : Lent) (addr clocks : ℕ) (answer : List ℕ) → Numbered (waitAt l addr clocks answer .code) (allCauses (l .state) (waitCauses (length (l .ram)) (length (l .a)) (length (l .b)) (length (l .border)) clocks (length answer)))
 unfolding waitAt
 wait-at-numbered l addr clocks answer = numbered (judgeWaitOf l clocks answer) _ _ _ (timed-code _ _ _ _ (judgeWaitOf l clocks answer) (waitAt l addr clocks answer) refl) (wait-ordered (l .state) (length (l .ram)) (length (l .a)) (length (l .b)) (length (l .border)) clocks (length answer))
 
-pub wait-at-unaltered : (l : Lent) (addr clocks : ℕ) (answer : List ℕ) → (waitAt l addr clocks answer .code ≡ 0 → ⊥) → (waitAt l addr clocks answer .slices ≡ l) × (waitAt l addr clocks answer .answer ≡ refusedAnswer 10 (waitAt l addr clocks answer .code) answer)
+pub wait-at-unaltered : (l : Lent) (addr clocks : ℕ) (answer : List ℕ) → (waitAt l addr clocks answer .code ≡ 0 → ⊥) → (waitAt l addr clocks answer .slices ≡ l) × (waitAt l addr clocks answer .answer ≡ refusedAnswer timedLength (waitAt l addr clocks answer .code) answer)
 unfolding waitAt
 wait-at-unaltered l addr clocks answer n = timed-kept _ _ _ _ (judgeWaitOf l clocks answer) (waitAt l addr clocks answer) refl n
 
-pub read-io-numbered : (l : Lent) (devices : List ℕ) (port : ℕ) (answer : List ℕ) → Numbered (readIo l devices port answer .code) (portCauses (l .state) devices (length (l .ram)) (length (l .a)) (length (l .b)) (length (l .border)) (length answer))
+pub read-io-numbered : (l : Lent) (devices : List ℕ) (port : ℕ) (answer : List ℕ) → Numbered (readIo l devices port answer .code) (allCauses (l .state) (portCauses devices (length (l .ram)) (length (l .a)) (length (l .b)) (length (l .border)) (length answer)))
 unfolding readIo
 read-io-numbered l devices port answer = numbered (judgePortOf l devices answer) _ _ _ (timed-code _ _ _ _ (judgePortOf l devices answer) (readIo l devices port answer) refl) (port-ordered (l .state) devices (length (l .ram)) (length (l .a)) (length (l .b)) (length (l .border)) (length answer))
 
-pub read-io-unaltered : (l : Lent) (devices : List ℕ) (port : ℕ) (answer : List ℕ) → (readIo l devices port answer .code ≡ 0 → ⊥) → (readIo l devices port answer .slices ≡ l) × (readIo l devices port answer .answer ≡ refusedAnswer 10 (readIo l devices port answer .code) answer)
+pub read-io-unaltered : (l : Lent) (devices : List ℕ) (port : ℕ) (answer : List ℕ) → (readIo l devices port answer .code ≡ 0 → ⊥) → (readIo l devices port answer .slices ≡ l) × (readIo l devices port answer .answer ≡ refusedAnswer timedLength (readIo l devices port answer .code) answer)
 unfolding readIo
 read-io-unaltered l devices port answer n = timed-kept _ _ _ _ (judgePortOf l devices answer) (readIo l devices port answer) refl n
 
-pub write-io-numbered : (l : Lent) (devices : List ℕ) (port value : ℕ) (answer : List ℕ) → Numbered (writeIo l devices port value answer .code) (portCauses (l .state) devices (length (l .ram)) (length (l .a)) (length (l .b)) (length (l .border)) (length answer))
+pub write-io-numbered : (l : Lent) (devices : List ℕ) (port value : ℕ) (answer : List ℕ) → Numbered (writeIo l devices port value answer .code) (allCauses (l .state) (portCauses devices (length (l .ram)) (length (l .a)) (length (l .b)) (length (l .border)) (length answer)))
 unfolding writeIo
 write-io-numbered l devices port value answer = numbered (judgePortOf l devices answer) _ _ _ (timed-code _ _ _ _ (judgePortOf l devices answer) (writeIo l devices port value answer) refl) (port-ordered (l .state) devices (length (l .ram)) (length (l .a)) (length (l .b)) (length (l .border)) (length answer))
 
-pub write-io-unaltered : (l : Lent) (devices : List ℕ) (port value : ℕ) (answer : List ℕ) → (writeIo l devices port value answer .code ≡ 0 → ⊥) → (writeIo l devices port value answer .slices ≡ l) × (writeIo l devices port value answer .answer ≡ refusedAnswer 10 (writeIo l devices port value answer .code) answer)
+pub write-io-unaltered : (l : Lent) (devices : List ℕ) (port value : ℕ) (answer : List ℕ) → (writeIo l devices port value answer .code ≡ 0 → ⊥) → (writeIo l devices port value answer .slices ≡ l) × (writeIo l devices port value answer .answer ≡ refusedAnswer timedLength (writeIo l devices port value answer .code) answer)
 unfolding writeIo
 write-io-unaltered l devices port value answer n = timed-kept _ _ _ _ (judgePortOf l devices answer) (writeIo l devices port value answer) refl n
 
-pub read-internal-numbered : (state rom ram : List ℕ) (addr : ℕ) (answer : List ℕ) → Numbered (readInternal state rom ram addr answer .code) (readCauses state (length rom) (length ram) (length answer))
+pub read-internal-numbered : (state rom ram : List ℕ) (addr : ℕ) (answer : List ℕ) → Numbered (readInternal state rom ram addr answer .code) (allCauses state (readCauses (length rom) (length ram) (length answer)))
 unfolding readInternal
 read-internal-numbered state rom ram addr answer = numbered (judgeRead state (length rom) (length ram) (length answer)) _ _ _ (told-code _ _ (judgeRead state (length rom) (length ram) (length answer)) (readInternal state rom ram addr answer) refl) (read-ordered state (length rom) (length ram) (length answer))
 
-pub read-internal-unaltered : (state rom ram : List ℕ) (addr : ℕ) (answer : List ℕ) → (readInternal state rom ram addr answer .code ≡ 0 → ⊥) → readInternal state rom ram addr answer .answer ≡ refusedAnswer 5 (readInternal state rom ram addr answer .code) answer
+pub read-internal-unaltered : (state rom ram : List ℕ) (addr : ℕ) (answer : List ℕ) → (readInternal state rom ram addr answer .code ≡ 0 → ⊥) → readInternal state rom ram addr answer .answer ≡ refusedAnswer numberLength (readInternal state rom ram addr answer .code) answer
 unfolding readInternal
 read-internal-unaltered state rom ram addr answer n = told-kept _ _ (judgeRead state (length rom) (length ram) (length answer)) (readInternal state rom ram addr answer) refl n
 
-pub write-internal-numbered : (state ram : List ℕ) (addr value : ℕ) → Numbered (writeInternal state ram addr value .code) (writeCauses state (length ram))
+pub write-internal-numbered : (state ram : List ℕ) (addr value : ℕ) → Numbered (writeInternal state ram addr value .code) (allCauses state (writeCauses (length ram)))
 unfolding writeInternal
 write-internal-numbered state ram addr value = numbered (judgeWrite state (length ram)) _ _ _ (changed-code _ _ (judgeWrite state (length ram)) (writeInternal state ram addr value) refl) (write-ordered state (length ram))
 
@@ -173,7 +173,7 @@ pub write-internal-unaltered : (state ram : List ℕ) (addr value : ℕ) → (wr
 unfolding writeInternal
 write-internal-unaltered state ram addr value n = changed-kept _ _ (judgeWrite state (length ram)) (writeInternal state ram addr value) refl n
 
-pub load-page-numbered : (state ram bytes : List ℕ) (page : ℕ) → Numbered (loadPage state ram bytes page .code) (loadCauses state (length ram) (length bytes) page)
+pub load-page-numbered : (state ram bytes : List ℕ) (page : ℕ) → Numbered (loadPage state ram bytes page .code) (allCauses state (loadCauses (length ram) (length bytes) page))
 unfolding loadPage
 load-page-numbered state ram bytes page = numbered (judgeLoad state (length ram) (length bytes) page) _ _ _ (changed-code _ _ (judgeLoad state (length ram) (length bytes) page) (loadPage state ram bytes page) refl) (load-ordered state (length ram) (length bytes) page)
 
@@ -181,39 +181,39 @@ pub load-page-unaltered : (state ram bytes : List ℕ) (page : ℕ) → (loadPag
 unfolding loadPage
 load-page-unaltered state ram bytes page n = changed-kept _ _ (judgeLoad state (length ram) (length bytes) page) (loadPage state ram bytes page) refl n
 
-pub write-7ffd-numbered : (state : List ℕ) (value : ℕ) (answer : List ℕ) → Numbered (write7ffdCall state value answer .code) (toldCauses state (length answer))
+pub write-7ffd-numbered : (state : List ℕ) (value : ℕ) (answer : List ℕ) → Numbered (write7ffdCall state value answer .code) (allCauses state (toldCauses (length answer)))
 unfolding write7ffdCall
 write-7ffd-numbered state value answer = numbered (judgeTold state (length answer)) _ _ _ (repaged-code _ _ _ (judgeTold state (length answer)) (write7ffdCall state value answer) refl) (told-ordered state (length answer))
 
-pub write-7ffd-unaltered : (state : List ℕ) (value : ℕ) (answer : List ℕ) → (write7ffdCall state value answer .code ≡ 0 → ⊥) → (write7ffdCall state value answer .state ≡ state) × (write7ffdCall state value answer .answer ≡ refusedAnswer 5 (write7ffdCall state value answer .code) answer)
+pub write-7ffd-unaltered : (state : List ℕ) (value : ℕ) (answer : List ℕ) → (write7ffdCall state value answer .code ≡ 0 → ⊥) → (write7ffdCall state value answer .state ≡ state) × (write7ffdCall state value answer .answer ≡ refusedAnswer numberLength (write7ffdCall state value answer .code) answer)
 unfolding write7ffdCall
 write-7ffd-unaltered state value answer n = repaged-kept _ _ _ (judgeTold state (length answer)) (write7ffdCall state value answer) refl n
 
-pub read-7ffd-numbered : (state answer : List ℕ) → Numbered (read7ffd state answer .code) (toldCauses state (length answer))
+pub read-7ffd-numbered : (state answer : List ℕ) → Numbered (read7ffd state answer .code) (allCauses state (toldCauses (length answer)))
 unfolding read7ffd
 read-7ffd-numbered state answer = numbered (judgeTold state (length answer)) _ _ _ (told-code _ _ (judgeTold state (length answer)) (read7ffd state answer) refl) (told-ordered state (length answer))
 
-pub read-7ffd-unaltered : (state answer : List ℕ) → (read7ffd state answer .code ≡ 0 → ⊥) → read7ffd state answer .answer ≡ refusedAnswer 5 (read7ffd state answer .code) answer
+pub read-7ffd-unaltered : (state answer : List ℕ) → (read7ffd state answer .code ≡ 0 → ⊥) → read7ffd state answer .answer ≡ refusedAnswer numberLength (read7ffd state answer .code) answer
 unfolding read7ffd
 read-7ffd-unaltered state answer n = told-kept _ _ (judgeTold state (length answer)) (read7ffd state answer) refl n
 
-pub int-active-numbered : (state answer : List ℕ) → Numbered (intActive state answer .code) (toldCauses state (length answer))
+pub int-active-numbered : (state answer : List ℕ) → Numbered (intActive state answer .code) (allCauses state (toldCauses (length answer)))
 unfolding intActive
 int-active-numbered state answer = numbered (judgeTold state (length answer)) _ _ _ (told-code _ _ (judgeTold state (length answer)) (intActive state answer) refl) (told-ordered state (length answer))
 
-pub int-active-unaltered : (state answer : List ℕ) → (intActive state answer .code ≡ 0 → ⊥) → intActive state answer .answer ≡ refusedAnswer 5 (intActive state answer .code) answer
+pub int-active-unaltered : (state answer : List ℕ) → (intActive state answer .code ≡ 0 → ⊥) → intActive state answer .answer ≡ refusedAnswer numberLength (intActive state answer .code) answer
 unfolding intActive
 int-active-unaltered state answer n = told-kept _ _ (judgeTold state (length answer)) (intActive state answer) refl n
 
-pub frames-count-numbered : (state answer : List ℕ) → Numbered (framesCount state answer .code) (toldCauses state (length answer))
+pub frames-count-numbered : (state answer : List ℕ) → Numbered (framesCount state answer .code) (allCauses state (toldCauses (length answer)))
 unfolding framesCount
 frames-count-numbered state answer = numbered (judgeTold state (length answer)) _ _ _ (told-code _ _ (judgeTold state (length answer)) (framesCount state answer) refl) (told-ordered state (length answer))
 
-pub frames-count-unaltered : (state answer : List ℕ) → (framesCount state answer .code ≡ 0 → ⊥) → framesCount state answer .answer ≡ refusedAnswer 5 (framesCount state answer .code) answer
+pub frames-count-unaltered : (state answer : List ℕ) → (framesCount state answer .code ≡ 0 → ⊥) → framesCount state answer .answer ≡ refusedAnswer numberLength (framesCount state answer .code) answer
 unfolding framesCount
 frames-count-unaltered state answer n = told-kept _ _ (judgeTold state (length answer)) (framesCount state answer) refl n
 
-pub reset-frames-numbered : (state : List ℕ) → Numbered (resetFrames state .code) (stateCauses state)
+pub reset-frames-numbered : (state : List ℕ) → Numbered (resetFrames state .code) (allCauses state noCauses)
 unfolding resetFrames
 reset-frames-numbered state = numbered (judgeState state) _ _ _ (changed-code _ _ (judgeState state) (resetFrames state) refl) (state-ordered state)
 
@@ -221,31 +221,31 @@ pub reset-frames-unaltered : (state : List ℕ) → (resetFrames state .code ≡
 unfolding resetFrames
 reset-frames-unaltered state n = changed-kept _ _ (judgeState state) (resetFrames state) refl n
 
-pub ram-page-numbered : (state ram : List ℕ) (page : ℕ) (answer : List ℕ) → Numbered (ramPageTold state ram page answer .code) (ramPageToldCauses state (length ram) page (length answer))
+pub ram-page-numbered : (state ram : List ℕ) (page : ℕ) (answer : List ℕ) → Numbered (ramPageTold state ram page answer .code) (allCauses state (ramPageCauses (length ram) page (numberFits (length answer))))
 unfolding ramPageTold
-ram-page-numbered state ram page answer = numbered (judgeRamPageTold state (length ram) page (length answer)) _ _ _ (told-code _ _ (judgeRamPageTold state (length ram) page (length answer)) (ramPageTold state ram page answer) refl) (ram-page-told-ordered state (length ram) page (length answer))
+ram-page-numbered state ram page answer = numbered (judgeRamPage state (length ram) page (numberFits (length answer))) _ _ _ (told-code _ _ (judgeRamPage state (length ram) page (numberFits (length answer))) (ramPageTold state ram page answer) refl) (ram-page-ordered state (length ram) page (numberFits (length answer)))
 
-pub ram-page-unaltered : (state ram : List ℕ) (page : ℕ) (answer : List ℕ) → (ramPageTold state ram page answer .code ≡ 0 → ⊥) → ramPageTold state ram page answer .answer ≡ refusedAnswer 5 (ramPageTold state ram page answer .code) answer
+pub ram-page-unaltered : (state ram : List ℕ) (page : ℕ) (answer : List ℕ) → (ramPageTold state ram page answer .code ≡ 0 → ⊥) → ramPageTold state ram page answer .answer ≡ refusedAnswer numberLength (ramPageTold state ram page answer .code) answer
 unfolding ramPageTold
-ram-page-unaltered state ram page answer n = told-kept _ _ (judgeRamPageTold state (length ram) page (length answer)) (ramPageTold state ram page answer) refl n
+ram-page-unaltered state ram page answer n = told-kept _ _ (judgeRamPage state (length ram) page (numberFits (length answer))) (ramPageTold state ram page answer) refl n
 
-pub block-numbered : (state rom ram : List ℕ) (number : ℕ) (answer : List ℕ) → Numbered (blockTold state rom ram number answer .code) (blockToldCauses state (length rom) (length ram) number (length answer))
+pub block-numbered : (state rom ram : List ℕ) (number : ℕ) (answer : List ℕ) → Numbered (blockTold state rom ram number answer .code) (allCauses state (blockCauses (length rom) (length ram) number (numberFits (length answer))))
 unfolding blockTold
-block-numbered state rom ram number answer = numbered (judgeBlockTold state (length rom) (length ram) number (length answer)) _ _ _ (told-code _ _ (judgeBlockTold state (length rom) (length ram) number (length answer)) (blockTold state rom ram number answer) refl) (block-told-ordered state (length rom) (length ram) number (length answer))
+block-numbered state rom ram number answer = numbered (judgeBlock state (length rom) (length ram) number (numberFits (length answer))) _ _ _ (told-code _ _ (judgeBlock state (length rom) (length ram) number (numberFits (length answer))) (blockTold state rom ram number answer) refl) (block-ordered state (length rom) (length ram) number (numberFits (length answer)))
 
-pub block-unaltered : (state rom ram : List ℕ) (number : ℕ) (answer : List ℕ) → (blockTold state rom ram number answer .code ≡ 0 → ⊥) → blockTold state rom ram number answer .answer ≡ refusedAnswer 5 (blockTold state rom ram number answer .code) answer
+pub block-unaltered : (state rom ram : List ℕ) (number : ℕ) (answer : List ℕ) → (blockTold state rom ram number answer .code ≡ 0 → ⊥) → blockTold state rom ram number answer .answer ≡ refusedAnswer numberLength (blockTold state rom ram number answer .code) answer
 unfolding blockTold
-block-unaltered state rom ram number answer n = told-kept _ _ (judgeBlockTold state (length rom) (length ram) number (length answer)) (blockTold state rom ram number answer) refl n
+block-unaltered state rom ram number answer n = told-kept _ _ (judgeBlock state (length rom) (length ram) number (numberFits (length answer))) (blockTold state rom ram number answer) refl n
 
-pub shown-picture-numbered : (state a b answer : List ℕ) → Numbered (shownTold state a b answer .code) (shownToldCauses state (length a) (length b) (length answer))
+pub shown-picture-numbered : (state a b answer : List ℕ) → Numbered (shownTold state a b answer .code) (allCauses state (shownCauses (length a) (length b) (numberFits (length answer))))
 unfolding shownTold
-shown-picture-numbered state a b answer = numbered (judgeShownTold state (length a) (length b) (length answer)) _ _ _ (told-code _ _ (judgeShownTold state (length a) (length b) (length answer)) (shownTold state a b answer) refl) (shown-told-ordered state (length a) (length b) (length answer))
+shown-picture-numbered state a b answer = numbered (judgeShown state (length a) (length b) (numberFits (length answer))) _ _ _ (told-code _ _ (judgeShown state (length a) (length b) (numberFits (length answer))) (shownTold state a b answer) refl) (shown-ordered state (length a) (length b) (numberFits (length answer)))
 
-pub shown-picture-unaltered : (state a b answer : List ℕ) → (shownTold state a b answer .code ≡ 0 → ⊥) → shownTold state a b answer .answer ≡ refusedAnswer 5 (shownTold state a b answer .code) answer
+pub shown-picture-unaltered : (state a b answer : List ℕ) → (shownTold state a b answer .code ≡ 0 → ⊥) → shownTold state a b answer .answer ≡ refusedAnswer numberLength (shownTold state a b answer .code) answer
 unfolding shownTold
-shown-picture-unaltered state a b answer n = told-kept _ _ (judgeShownTold state (length a) (length b) (length answer)) (shownTold state a b answer) refl n
+shown-picture-unaltered state a b answer n = told-kept _ _ (judgeShown state (length a) (length b) (numberFits (length answer))) (shownTold state a b answer) refl n
 
-pub still-picture-numbered : (state ram picture : List ℕ) (flash : ℕ) → Numbered (stillPicture state ram picture flash .code) (stillCauses state (length ram) (length picture) flash)
+pub still-picture-numbered : (state ram picture : List ℕ) (flash : ℕ) → Numbered (stillPicture state ram picture flash .code) (allCauses state (stillCauses (length ram) (length picture) flash))
 unfolding stillPicture
 still-picture-numbered state ram picture flash = numbered (judgeStill state (length ram) (length picture) flash) _ _ _ (changed-code _ _ (judgeStill state (length ram) (length picture) flash) (stillPicture state ram picture flash) refl) (still-ordered state (length ram) (length picture) flash)
 
@@ -254,7 +254,7 @@ unfolding stillPicture
 still-picture-unaltered state ram picture flash n = changed-kept _ _ (judgeStill state (length ram) (length picture) flash) (stillPicture state ram picture flash) refl n
 
 -- an answer of the wrong length is left alone
-left-alone : (answer : List ℕ) (n : ℕ) → numberFits (length answer) ≡ false → answer ≡ refusedAnswer 5 n answer
+left-alone : (answer : List ℕ) (n : ℕ) → numberFits (length answer) ≡ false → answer ≡ refusedAnswer numberLength n answer
 unfolding refusedAnswer
 left-alone answer n e = rw e
 
@@ -309,12 +309,12 @@ helper-numbered t k answer =
     two-numbered _ _ bus (helper-code t (numberFits (length answer)) k answer bus) refl
 
 pub helper-unaltered : (h : Helped) (answer : List ℕ) → (helperCall h answer .code ≡ 0 → ⊥)
-    → helperCall h answer .answer ≡ refusedAnswer 5 (helperCall h answer .code) answer
+    → helperCall h answer .answer ≡ refusedAnswer numberLength (helperCall h answer .code) answer
 unfolding helperCall
 helper-unaltered h answer n = by h (numberFits (length answer)) refl n where
   by : (h : Helped) (f : Bool) → numberFits (length answer) ≡ f → (cond f (help h answer) (told (refusalNumber BadLength) answer) .code ≡ 0 → ⊥)
       → cond f (help h answer) (told (refusalNumber BadLength) answer) .answer
-      ≡ refusedAnswer 5 (cond f (help h answer) (told (refusalNumber BadLength) answer) .code) answer
+      ≡ refusedAnswer numberLength (cond f (help h answer) (told (refusalNumber BadLength) answer) .code) answer
   by (helped.Number k) true e n = absurd (n refl)
   by helped.OutOfRange true e n = refl
   by h false e n = left-alone answer (refusalNumber BadLength) e

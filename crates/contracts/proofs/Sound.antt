@@ -14,7 +14,7 @@ use Rattle.machine.specs.declared.ZXMachine.{ZXMachine}
 use Rattle.machine.specs.declared.ZXMachine.the-variants.{Sinclair48K, Sinclair128K}
 use Rattle.record.specs.declared.Bus.{Bus}
 use Rattle.record.specs.declared.Held.the-variants as held
-use Rattle.record.specs.Record.{recordBytes, heldBy, machineOf, startRecord}
+use Rattle.record.specs.Record.{recordBytes, heldBy, machineOf, startRecord, withPaging, withPassed, HasRoom}
 use Rattle.record.specs.Sound.{Sound}
 use Rattle.record.proofs.Soundness.{facts-sound}
 use Rattle.record.specs.Words.{Bytes}
@@ -34,7 +34,7 @@ use Rattle.answers.specs.declared.Verdict.the-variants.{Refused, Accepted}
 use Rattle.answers.specs.Judges.{judgeState, judgeTold}
 use Rattle.answers.proofs.Accepted.{accepted-bytes, ready-wait, ready-port, ready-told, ready-state}
 use Rattle.contracts.specs.Timed.{Lent, lentBy, lentWorld, Outcome, timed, judgeWaitOf, judgePortOf, waitInternal, waitAt, readIo, writeIo, startLeaves, startFitsOf, start}
-use Rattle.contracts.specs.Plain.{Changed, change, withPassed, withPaging, Repaged, repage, write7ffdCall, resetFrames}
+use Rattle.contracts.specs.Plain.{Changed, change, Repaged, repage, write7ffdCall, resetFrames}
 use Rattle.contracts.proofs.Refusals.{not-zero}
 
 -- these bytes are held as a sound record
@@ -48,7 +48,7 @@ good bus s = (bus, held-encode bus (facts-sound bus s))
 -- what an accepted one has: a sound record, with room for a frame, and operations that take less than a frame
 record Runs (part : ZXMachine → Part) (bus : Bus) : Type 0 where
   sound : Sound bus
-  room : bus .passed < 4294967295
+  room : HasRoom (bus .passed)
   brief : Timed (bus .machine) (part (bus .machine))
 
 module _ (part : ZXMachine → Part) (value : ZXMachine → Core → ℕ) (l : Lent) (answer : List ℕ) where

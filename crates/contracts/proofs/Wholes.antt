@@ -13,10 +13,12 @@ use Rattle.laws.proofs.Cases.{and-left}
 use Rattle.laws.proofs.Conjunction.{each}
 use Rattle.machine.specs.declared.ZXMachine.{ZXMachine}
 use Rattle.machine.specs.Numbers.{specsOf}
+use Rattle.machine.specs.Limits.{pictureLength, borderLength}
 use Rattle.record.specs.declared.Bus.{Bus}
 use Rattle.record.specs.Record.{recordBytes, recordLength, recordOf}
 use Rattle.record.proofs.Soundness.{facts-sound}
 use Rattle.record.proofs.Round.{decode-encode-sound}
+use Rattle.ports.specs.Devices.{devicesLength}
 use Rattle.bus.specs.World.{World, busOf}
 use Rattle.bus.proofs.Kept.{SoundWorld}
 use Rattle.answers.specs.Judges.{ramFits, romFits, pictureFits, borderFits, timedFits, lentFit}
@@ -53,10 +55,10 @@ module _ (m : ZXMachine) (w : World) (sound : SoundWorld m w) (sized : Sized m w
     ram-whole bus e h = portion-whole (n .ram) (l .ram) (ram-long bus e h)
 
     a-long : pictureFits (length (part .a)) ≡ true → length (part .a) ≡ length (l .a)
-    a-long h = eqb-true (length (part .a)) 49152 h ∙ sym (sized .a)
+    a-long h = eqb-true (length (part .a)) pictureLength h ∙ sym (sized .a)
 
     b-long : pictureFits (length (part .b)) ≡ true → length (part .b) ≡ length (l .b)
-    b-long h = eqb-true (length (part .b)) 49152 h ∙ sym (sized .b)
+    b-long h = eqb-true (length (part .b)) pictureLength h ∙ sym (sized .b)
 
     -- the five slices of a timed call
     five-whole : (h : not (eqb (length (part .state)) recordLength) ≡ false)
@@ -68,7 +70,7 @@ module _ (m : ZXMachine) (w : World) (sound : SoundWorld m w) (sized : Sized m w
           ram = ram-long (recordOf (part .state)) (bus-is h) (fit 0);
           a = a-long (fit 1);
           b = b-long (fit 2);
-          border = eqb-true (length (part .border)) 76800 (fit 3) ∙ sym (sized .pixels);
+          border = eqb-true (length (part .border)) borderLength (fit 3) ∙ sym (sized .pixels);
         }
 
     abbrev fits : Bool
@@ -79,9 +81,9 @@ module _ (m : ZXMachine) (w : World) (sound : SoundWorld m w) (sized : Sized m w
     timed-whole (plain k) answer h = five-whole (h .0) (and-left fits (timedFits (length answer)) (not-false _ (h .1 .1 .0)))
     timed-whole (mreq addr k) answer h = five-whole (h .0) (and-left fits (timedFits (length answer)) (not-false _ (h .1 .1 .0)))
     timed-whole (noMreq addr k) answer h = five-whole (h .0) (and-left fits (timedFits (length answer)) (not-false _ (h .1 .1 .0)))
-    timed-whole (portIn devices port) answer h = five-whole (h .0) (each (eqb (length devices) 35) (fits ∷ timedFits (length answer) ∷ []) (not-false _ (h .1 .1 .0)) 1)
+    timed-whole (portIn devices port) answer h = five-whole (h .0) (each (eqb (length devices) devicesLength) (fits ∷ timedFits (length answer) ∷ []) (not-false _ (h .1 .1 .0)) 1)
     timed-whole (portOut devices port value) answer h =
-        five-whole (h .0) (each (eqb (length devices) 35) (fits ∷ timedFits (length answer) ∷ []) (not-false _ (h .1 .1 .0)) 1)
+        five-whole (h .0) (each (eqb (length devices) devicesLength) (fits ∷ timedFits (length answer) ∷ []) (not-false _ (h .1 .1 .0)) 1)
 
     -- A QUESTION THAT IS ANSWERED is answered as on the whole buffers.
     pub reply-whole : (q : Question) (out : List ℕ) → NoneHolds (questionCauses q part out) → replied q part out ≡ replied q l out

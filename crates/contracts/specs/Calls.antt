@@ -9,6 +9,7 @@ use lib.Dec.{leb, ltb}
 use lib.ListN.{length, take, drop}
 use Rattle.machine.specs.declared.ZXMachine.{ZXMachine}
 use Rattle.machine.specs.Numbers.{specsOf}
+use Rattle.machine.specs.Limits.{pictureLength, borderLength}
 use Rattle.record.specs.Record.{machineOf}
 use Rattle.ports.specs.Devices.{devicesOf}
 use Rattle.bus.specs.World.{Core, World}
@@ -20,9 +21,9 @@ use Rattle.screen.specs.Address.{lineAddress, lineAt, columnAt, attributeRow, a
 use Rattle.screen.specs.Color.{fromBits}
 use Rattle.answers.specs.declared.Refusal.the-variants.{BadMachine, BadNumber}
 use Rattle.answers.specs.Refusals.{Cause, cause}
-use Rattle.answers.specs.Judges.{numberFits, unless}
-use Rattle.answers.specs.Answers.{refusedAnswer}
-use Rattle.answers.specs.Order.{stateCauses, waitCauses, portCauses, toldCauses, readCauses, writeCauses, loadCauses, ramPageToldCauses, blockToldCauses, shownToldCauses, stillCauses}
+use Rattle.answers.specs.Judges.{numberFits, unless, noCauses, waitCauses, portCauses, toldCauses, readCauses, writeCauses, loadCauses, ramPageCauses, blockCauses, shownCauses, stillCauses}
+use Rattle.answers.specs.Answers.{timedLength, numberLength, refusedAnswer}
+use Rattle.answers.specs.Order.{allCauses}
 use Rattle.contracts.specs.Timed.{Lent, Outcome, noValue, startFitsOf, start, waitInternal, waitAt, readIo, writeIo}
 use Rattle.contracts.specs.Plain.{Told, told, readInternal, writeInternal, write7ffdCall, read7ffd, intActive, framesCount, resetFrames, loadPage, stillPicture, ramPageTold, blockTold, shownTold}
 use Rattle.contracts.specs.Helpers.{helperCall, colorHelped}
@@ -148,10 +149,10 @@ performed (ask q out) l = let t = replied q l out in result (t .code) l (t .answ
 
 -- ---- the causes for which a call is refused, in document 01's order
 abbrev pub waitCausesOf : Lent → ℕ → List ℕ → List Cause
-waitCausesOf l n answer = waitCauses (l .state) (length (l .ram)) (length (l .a)) (length (l .b)) (length (l .border)) n (length answer)
+waitCausesOf l n answer = allCauses (l .state) (waitCauses (length (l .ram)) (length (l .a)) (length (l .b)) (length (l .border)) n (length answer))
 
 abbrev pub portCausesOf : Lent → List ℕ → List ℕ → List Cause
-portCausesOf l devices answer = portCauses (l .state) devices (length (l .ram)) (length (l .a)) (length (l .b)) (length (l .border)) (length answer)
+portCausesOf l devices answer = allCauses (l .state) (portCauses devices (length (l .ram)) (length (l .a)) (length (l .b)) (length (l .border)) (length answer))
 
 abbrev pub timedCauses : TimedCall → Lent → List ℕ → List Cause
 timedCauses (plain n) l answer = waitCausesOf l n answer
@@ -177,42 +178,42 @@ abbrev pub helperCauses : Bool → List ℕ → List Cause
 helperCauses within answer = unless (numberFits (length answer)) ∷ cause BadNumber (not within) ∷ []
 
 abbrev pub questionCauses : Question → Lent → List ℕ → List Cause
-questionCauses (byteRead rom addr) l answer = readCauses (l .state) (length rom) (length (l .ram)) (length answer)
-questionCauses pagingRead l answer = toldCauses (l .state) (length answer)
-questionCauses interruptAsked l answer = toldCauses (l .state) (length answer)
-questionCauses framesAsked l answer = toldCauses (l .state) (length answer)
-questionCauses (pageAsked page) l answer = ramPageToldCauses (l .state) (length (l .ram)) page (length answer)
-questionCauses (blockAsked rom block) l answer = blockToldCauses (l .state) (length rom) (length (l .ram)) block (length answer)
-questionCauses shownAsked l answer = shownToldCauses (l .state) (length (l .a)) (length (l .b)) (length answer)
-questionCauses (stillAsked flash) l picture = stillCauses (l .state) (length (l .ram)) (length picture) flash
+questionCauses (byteRead rom addr) l answer = allCauses (l .state) (readCauses (length rom) (length (l .ram)) (length answer))
+questionCauses pagingRead l answer = allCauses (l .state) (toldCauses (length answer))
+questionCauses interruptAsked l answer = allCauses (l .state) (toldCauses (length answer))
+questionCauses framesAsked l answer = allCauses (l .state) (toldCauses (length answer))
+questionCauses (pageAsked page) l answer = allCauses (l .state) (ramPageCauses (length (l .ram)) page (numberFits (length answer)))
+questionCauses (blockAsked rom block) l answer = allCauses (l .state) (blockCauses (length rom) (length (l .ram)) block (numberFits (length answer)))
+questionCauses shownAsked l answer = allCauses (l .state) (shownCauses (length (l .a)) (length (l .b)) (numberFits (length answer)))
+questionCauses (stillAsked flash) l picture = allCauses (l .state) (stillCauses (length (l .ram)) (length picture) flash)
 questionCauses (help h n) l answer = helperCauses (helperRange h n) answer
 
 abbrev pub causesOf : Call → Lent → List Cause
 causesOf (startAgain machine) l = startCauses l machine
 causesOf (timedCall t answer) l = timedCauses t l answer
-causesOf (writeByte addr value) l = writeCauses (l .state) (length (l .ram))
-causesOf (writePaging value answer) l = toldCauses (l .state) (length answer)
-causesOf resetPassed l = stateCauses (l .state)
-causesOf (loadRam bytes page) l = loadCauses (l .state) (length (l .ram)) (length bytes) page
+causesOf (writeByte addr value) l = allCauses (l .state) (writeCauses (length (l .ram)))
+causesOf (writePaging value answer) l = allCauses (l .state) (toldCauses (length answer))
+causesOf resetPassed l = allCauses (l .state) noCauses
+causesOf (loadRam bytes page) l = allCauses (l .state) (loadCauses (length (l .ram)) (length bytes) page)
 causesOf (ask q out) l = questionCauses q l out
 
 -- "A refused call fills its answer, if that has its length, with the number and zeros": a still's picture is left as it was
 abbrev pub refusedReply : Question → List ℕ → ℕ → List ℕ
-refusedReply (byteRead rom addr) answer code = refusedAnswer 5 code answer
-refusedReply pagingRead answer code = refusedAnswer 5 code answer
-refusedReply interruptAsked answer code = refusedAnswer 5 code answer
-refusedReply framesAsked answer code = refusedAnswer 5 code answer
-refusedReply (pageAsked page) answer code = refusedAnswer 5 code answer
-refusedReply (blockAsked rom block) answer code = refusedAnswer 5 code answer
-refusedReply shownAsked answer code = refusedAnswer 5 code answer
+refusedReply (byteRead rom addr) answer code = refusedAnswer numberLength code answer
+refusedReply pagingRead answer code = refusedAnswer numberLength code answer
+refusedReply interruptAsked answer code = refusedAnswer numberLength code answer
+refusedReply framesAsked answer code = refusedAnswer numberLength code answer
+refusedReply (pageAsked page) answer code = refusedAnswer numberLength code answer
+refusedReply (blockAsked rom block) answer code = refusedAnswer numberLength code answer
+refusedReply shownAsked answer code = refusedAnswer numberLength code answer
 refusedReply (stillAsked flash) picture code = picture
-refusedReply (help h n) answer code = refusedAnswer 5 code answer
+refusedReply (help h n) answer code = refusedAnswer numberLength code answer
 
 abbrev pub refusedFilled : Call → ℕ → List ℕ
 refusedFilled (startAgain machine) code = []
-refusedFilled (timedCall t answer) code = refusedAnswer 10 code answer
+refusedFilled (timedCall t answer) code = refusedAnswer timedLength code answer
 refusedFilled (writeByte addr value) code = []
-refusedFilled (writePaging value answer) code = refusedAnswer 5 code answer
+refusedFilled (writePaging value answer) code = refusedAnswer numberLength code answer
 refusedFilled resetPassed code = []
 refusedFilled (loadRam bytes page) code = []
 refusedFilled (ask q out) code = refusedReply q out code
@@ -292,9 +293,9 @@ handedBack n l out =
 -- the memory of a machine has the lengths that document 01 gives it
 pub record Sized (m : ZXMachine) (w : World) : Type 0 where
   pub ram : length (w .core .ram) ≡ specsOf m .ram
-  pub a : length (w .screen .a) ≡ 49152
-  pub b : length (w .screen .b) ≡ 49152
-  pub pixels : length (w .edge .pixels) ≡ 76800
+  pub a : length (w .screen .a) ≡ pictureLength
+  pub b : length (w .screen .b) ≡ pictureLength
+  pub pixels : length (w .edge .pixels) ≡ borderLength
 
 -- ---- a call that was made: what of the buffers it was lent, and what it left
 pub record Made : Type 0 where

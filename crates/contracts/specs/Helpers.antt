@@ -13,13 +13,13 @@ use Rattle.screen.specs.Color.{fromBits, colorNumber}
 use Rattle.answers.specs.declared.Refusal.the-variants.{BadLength, BadNumber}
 use Rattle.answers.specs.Refusals.{refusalNumber}
 use Rattle.answers.specs.Judges.{numberFits}
-use Rattle.answers.specs.Answers.{numberAnswer, refusedAnswer}
+use Rattle.answers.specs.Answers.{numberAnswer, refusedAnswer, numberLength}
 use Rattle.contracts.specs.Plain.{Told, told}
 
 -- 01's number and values for each case of a helper's answer. "other lengths", then 8: "a helper's number outside its range"
 abbrev pub help : Helped → List ℕ → Told
 help (helped.Number n) answer = told 0 (numberAnswer n)
-help helped.OutOfRange answer = told (refusalNumber BadNumber) (refusedAnswer 5 (refusalNumber BadNumber) answer)
+help helped.OutOfRange answer = told (refusalNumber BadNumber) (refusedAnswer numberLength (refusalNumber BadNumber) answer)
 
 unfoldable pub helperCall : Helped → List ℕ → Told
 helperCall h answer = cond (numberFits (length answer)) (help h answer) (told (refusalNumber BadLength) answer)

@@ -1,15 +1,16 @@
 -- Document 01: the calls that take no time, as C calls them, and the three that hand back a part.
 -- Assumes nothing.
 use Prim.Native.Nat.{ℕ}
-use mathlib.Core.Bool.{cond}
+use mathlib.Core.Bool.{true, cond}
 use mathlib.Core.List.{List, []}
 use lib.Dec.{eqb}
 use lib.ListN.{length}
 use Rattle.machine.specs.declared.ZXMachine.{ZXMachine}
 use Rattle.machine.specs.declared.ZXMachine.the-variants.{Sinclair48K, Sinclair128K}
 use Rattle.machine.specs.Timing.{interrupt}
+use Rattle.machine.specs.Limits.{pictureLength}
 use Rattle.record.specs.declared.Bus.{Bus}
-use Rattle.record.specs.Record.{recordBytes, flagByte}
+use Rattle.record.specs.Record.{recordBytes, flagByte, withPaging, withPassed}
 use Rattle.memory.specs.declared.Page.the-variants as page
 use Rattle.memory.specs.Paging.{pageAt, write7ffd, pagedCode, pagingAfter}
 use Rattle.memory.specs.Memory.{byteAt, poked, ramPage, pagePart, partStart, loaded}
@@ -18,8 +19,8 @@ use Rattle.bus.specs.Time.{showsA}
 use Rattle.answers.specs.declared.Verdict.{Verdict}
 use Rattle.answers.specs.declared.Verdict.the-variants.{Refused, Accepted}
 use Rattle.answers.specs.Refusals.{refusalNumber}
-use Rattle.answers.specs.Judges.{judgeState, judgeTold, judgeRead, judgeWrite, judgeLoad, judgeRamPage, judgeRamPageTold, judgeBlock, judgeBlockTold, judgeShown, judgeShownTold, judgeStill}
-use Rattle.answers.specs.Answers.{numberAnswer, refusedAnswer}
+use Rattle.answers.specs.Judges.{judgeState, judgeTold, judgeRead, judgeWrite, judgeLoad, numberFits, judgeRamPage, judgeBlock, judgeShown, judgeStill}
+use Rattle.answers.specs.Answers.{numberAnswer, refusedAnswer, numberLength}
 
 -- "Every call .. returns its refusal number, 0 if accepted."
 abbrev pub codeOf : Verdict → ℕ
@@ -35,7 +36,7 @@ abbrev pub told : ℕ → List ℕ → Told
 told code answer = record { code = code; answer = answer }
 
 abbrev pub tell : (Bus → ℕ) → List ℕ → Verdict → Told
-tell number answer (Refused e) = told (refusalNumber e) (refusedAnswer 5 (refusalNumber e) answer)
+tell number answer (Refused e) = told (refusalNumber e) (refusedAnswer numberLength (refusalNumber e) answer)
 tell number answer (Accepted bus) = told 0 (numberAnswer (number bus))
 
 -- what a call that changes one lent slice returns, and that slice
@@ -61,37 +62,6 @@ unfoldable pub writeInternal : List ℕ → List ℕ → ℕ → ℕ → Changed
 writeInternal state ram addr value =
     change (λ bus. poked (bus .machine) (bus .paging) ram addr value) ram (judgeWrite state (length ram))
 
--- the record with another 7FFD byte, and with no passed frames
-abbrev pub withPaging : ℕ → Bus → Bus
-withPaging v bus =
-    record {
-      machine = bus .machine;
-      clock = bus .clock;
-      passed = bus .passed;
-      phase = bus .phase;
-      painted = bus .painted;
-      paging = v;
-      reported = bus .reported;
-      colour = bus .colour;
-      blocked = bus .blocked;
-      pairs = bus .pairs;
-    }
-
-abbrev pub withPassed : ℕ → Bus → Bus
-withPassed n bus =
-    record {
-      machine = bus .machine;
-      clock = bus .clock;
-      passed = n;
-      phase = bus .phase;
-      painted = bus .painted;
-      paging = bus .paging;
-      reported = bus .reported;
-      colour = bus .colour;
-      blocked = bus .blocked;
-      pairs = bus .pairs;
-    }
-
 -- what a 7FFD write leaves: the number returned, the state record and the answer
 pub record Repaged : Type 0 where
   pub code : ℕ
@@ -102,7 +72,7 @@ abbrev pub repaged : ℕ → List ℕ → List ℕ → Repaged
 repaged code state answer = record { code = code; state = state; answer = answer }
 
 abbrev pub repage : ℕ → List ℕ → List ℕ → Verdict → Repaged
-repage value state answer (Refused e) = repaged (refusalNumber e) state (refusedAnswer 5 (refusalNumber e) answer)
+repage value state answer (Refused e) = repaged (refusalNumber e) state (refusedAnswer numberLength (refusalNumber e) answer)
 repage value state answer (Accepted bus) =
     let p = write7ffd (bus .machine) (bus .paging) value in
     repaged 0 (recordBytes (withPaging (pagingAfter p (bus .paging)) bus)) (numberAnswer (pagedCode p))
@@ -147,27 +117,27 @@ part whole (Accepted bus) = whole bus
 
 -- "RAM page by number"
 unfoldable pub ramPagePart : List ℕ → List ℕ → ℕ → List ℕ
-ramPagePart state ram number = part (λ bus. ramPage number ram) (judgeRamPage state (length ram) number)
+ramPagePart state ram number = part (λ bus. ramPage number ram) (judgeRamPage state (length ram) number true)
 
 -- "the 16 KiB at a block as a part of the lent ROM or RAM"
 unfoldable pub blockPart : List ℕ → List ℕ → List ℕ → ℕ → List ℕ
 blockPart state rom ram block =
-    part (λ bus. pagePart (pageAt (bus .machine) (bus .paging) block) rom ram) (judgeBlock state (length rom) (length ram) block)
+    part (λ bus. pagePart (pageAt (bus .machine) (bus .paging) block) rom ram) (judgeBlock state (length rom) (length ram) block true)
 
 -- "the shown picture handed back from the two lent pictures"
 unfoldable pub shownPart : List ℕ → List ℕ → List ℕ → List ℕ
-shownPart state a b = part (λ bus. cond (showsA (bus .phase)) a b) (judgeShown state (length a) (length b))
+shownPart state a b = part (λ bus. cond (showsA (bus .phase)) a b) (judgeShown state (length a) (length b) true)
 
 -- ulb_ram_page, ulb_block, ulb_shown_picture: "a part reaches C by a 5-byte answer with its start as the number, RAM counted after ROM, B after A"
 unfoldable pub ramPageTold : List ℕ → List ℕ → ℕ → List ℕ → Told
 ramPageTold state ram number answer =
-    tell (λ bus. partStart (bus .machine) (page.Ram number)) answer (judgeRamPageTold state (length ram) number (length answer))
+    tell (λ bus. partStart (bus .machine) (page.Ram number)) answer (judgeRamPage state (length ram) number (numberFits (length answer)))
 
 unfoldable pub blockTold : List ℕ → List ℕ → List ℕ → ℕ → List ℕ → Told
 blockTold state rom ram block answer =
     tell (λ bus. partStart (bus .machine) (pageAt (bus .machine) (bus .paging) block)) answer
-    (judgeBlockTold state (length rom) (length ram) block (length answer))
+    (judgeBlock state (length rom) (length ram) block (numberFits (length answer)))
 
 unfoldable pub shownTold : List ℕ → List ℕ → List ℕ → List ℕ → Told
 shownTold state a b answer =
-    tell (λ bus. cond (showsA (bus .phase)) 0 49152) answer (judgeShownTold state (length a) (length b) (length answer))
+    tell (λ bus. cond (showsA (bus .phase)) 0 pictureLength) answer (judgeShown state (length a) (length b) (numberFits (length answer)))

@@ -18,8 +18,8 @@ use Rattle.answers.specs.declared.Refusal.the-variants.{BadMachine, BadLength}
 use Rattle.answers.specs.declared.Verdict.{Verdict}
 use Rattle.answers.specs.declared.Verdict.the-variants.{Refused, Accepted}
 use Rattle.answers.specs.Refusals.{refusalNumber}
-use Rattle.answers.specs.Judges.{judgeWait, judgePort}
-use Rattle.answers.specs.Answers.{timedAnswer, refusedAnswer}
+use Rattle.answers.specs.Judges.{judgeWait, judgePort, pictureFits, borderFits}
+use Rattle.answers.specs.Answers.{timedAnswer, refusedAnswer, timedLength}
 
 -- the machine's own slices: state record, RAM, pictures A and B, border
 pub record Lent : Type 0 where
@@ -57,7 +57,7 @@ timedEnd t value =
 -- a timed call: its operations, and its value or code, are what the core at entry decides. "A refused call fills its answer .., returns the
 -- number .. and writes nothing else."
 unfoldable pub timed : (ZXMachine → Part) → (ZXMachine → Core → ℕ) → Lent → List ℕ → Verdict → Outcome
-timed part value l answer (Refused e) = outcome (refusalNumber e) l (refusedAnswer 10 (refusalNumber e) answer)
+timed part value l answer (Refused e) = outcome (refusalNumber e) l (refusedAnswer timedLength (refusalNumber e) answer)
 timed part value l answer (Accepted bus) =
     timedEnd (ranBy (part (bus .machine)) (fresh (bus .machine) (lentWorld bus l))) (value (bus .machine) (lentWorld bus l .core))
 
@@ -103,7 +103,7 @@ startLeaves code slices = record { code = code; slices = slices }
 -- ulb_start: "start: machine above 1", then the lengths; "a start only writes it and doesn't judge it"
 abbrev pub startFits : ZXMachine → ℕ → ℕ → ℕ → ℕ → ℕ → Bool
 startFits m state ram a b border =
-    eqb state recordLength && eqb ram (specsOf m .ram) && eqb a 49152 && eqb b 49152 && eqb border 76800
+    eqb state recordLength && eqb ram (specsOf m .ram) && pictureFits a && pictureFits b && borderFits border
 
 abbrev pub startFitsOf : ZXMachine → Lent → Bool
 startFitsOf m l = startFits m (length (l .state)) (length (l .ram)) (length (l .a)) (length (l .b)) (length (l .border))

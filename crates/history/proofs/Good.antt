@@ -11,8 +11,9 @@ use borrow.Author.Tests.{eq-eqb, ne-eqb, le-ltb}
 use Rattle.laws.proofs.Cases.{and-left, and-right, and-both}
 use Rattle.machine.specs.declared.ZXMachine.{ZXMachine}
 use Rattle.machine.specs.Numbers.{specsOf}
+use Rattle.machine.specs.Limits.{pictureLength, borderLength, longestWait}
 use Rattle.record.specs.declared.Bus.{Bus}
-use Rattle.record.specs.Record.{recordOf, soundBytes}
+use Rattle.record.specs.Record.{recordOf, soundBytes, lastFrame, noRoom, HasRoom}
 use Rattle.record.proofs.Soundness.{facts-sound}
 use Rattle.record.proofs.Round.{sound-encode, sound-fits}
 use Rattle.bus.specs.World.{World, busOf}
@@ -21,6 +22,7 @@ use Rattle.answers.specs.declared.Refusal.{Refusal}
 use Rattle.answers.specs.declared.Refusal.the-variants.{BadLength, Unsound}
 use Rattle.answers.specs.Refusals.{refusalNumber, Cause}
 use Rattle.answers.specs.Judges.{ramFits}
+use Rattle.answers.specs.Answers.{timedLength}
 use Rattle.answers.specs.Order.{NoneHolds, FirstHolds, recordCauses}
 use Rattle.contracts.specs.Timed.{Lent, lentBy}
 use Rattle.contracts.specs.Calls.{plain, mreq, noMreq, portIn, portOut, byteRead, pagingRead, interruptAsked, framesAsked, pageAsked, blockAsked, shownAsked, stillAsked, help, Call, startAgain, timedCall, writeByte, writePaging, resetPassed, loadRam, ask, performed, waitCausesOf, causesOf, Portions, lentOf, Sized}
@@ -35,7 +37,7 @@ module _ (m : ZXMachine) (w : World) (sound : SoundWorld m w) (sized : Sized m w
   own-sound = sound-encode (busOf m w) (sound-fits (busOf m w) sound) ∙ facts-sound (busOf m w) sound
 
   -- A wait of at most 65,535 clocks is accepted while passed frames have room.
-  pub wait-accepted : (clocks : ℕ) (answer : List ℕ) → clocks ≤ 65535 → length answer ≡ 10 → w .core .passed < 4294967295
+  pub wait-accepted : (clocks : ℕ) (answer : List ℕ) → clocks ≤ longestWait → length answer ≡ timedLength → HasRoom (w .core .passed)
       → performed (timedCall (plain clocks) answer) l .code ≡ 0
   wait-accepted clocks answer few size room =
       call-numbered (timedCall (plain clocks) answer) l .noneIsZero none
@@ -53,13 +55,13 @@ module _ (m : ZXMachine) (w : World) (sound : SoundWorld m w) (sized : Sized m w
                 (and-both _ _
                 (and-both _ _
                 (and-both _ _
-                (and-both _ _ (ap (λ (b : Bus). ramFits b (length (l .ram))) here ∙ eq-eqb (length (l .ram)) (specsOf m .ram) (sized .ram)) (eq-eqb (length (l .a)) 49152 (sized .a)))
-                (eq-eqb (length (l .b)) 49152 (sized .b)))
-                (eq-eqb (length (l .border)) 76800 (sized .pixels)))
-                (eq-eqb (length answer) 10 size)),
+                (and-both _ _ (ap (λ (b : Bus). ramFits b (length (l .ram))) here ∙ eq-eqb (length (l .ram)) (specsOf m .ram) (sized .ram)) (eq-eqb (length (l .a)) pictureLength (sized .a)))
+                (eq-eqb (length (l .b)) pictureLength (sized .b)))
+                (eq-eqb (length (l .border)) borderLength (sized .pixels)))
+                (eq-eqb (length answer) timedLength size)),
             (
-              le-ltb 65535 clocks few,
-              (ap (λ (b : Bus). eqb (b .passed) 4294967295) here ∙ ne-eqb (w .core .passed) 4294967295 (λ e. omega arith), tt),
+              le-ltb longestWait clocks few,
+              (ap (λ (b : Bus). noRoom (b .passed)) here ∙ ne-eqb (w .core .passed) lastFrame (λ e. omega arith), tt),
             ),
           ),
         ),

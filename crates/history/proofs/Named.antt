@@ -8,6 +8,7 @@ use lib.ListN.{length}
 use borrow.Author.Tests.{eq-eqb}
 use Rattle.laws.proofs.Cases.{and-both}
 use Rattle.machine.specs.declared.ZXMachine.{ZXMachine}
+use Rattle.machine.specs.Limits.{pictureLength}
 use Rattle.record.specs.declared.Bus.{Bus}
 use Rattle.record.specs.Record.{recordOf, soundBytes}
 use Rattle.record.proofs.Soundness.{facts-sound}
@@ -17,6 +18,7 @@ use Rattle.bus.specs.Time.{showsA, shownPicture}
 use Rattle.bus.proofs.Kept.{SoundWorld}
 use Rattle.answers.specs.declared.Verdict.{Verdict}
 use Rattle.answers.specs.declared.Verdict.the-variants.{Accepted}
+use Rattle.answers.specs.Answers.{numberLength}
 use Rattle.answers.specs.Order.{NoneHolds}
 use Rattle.answers.proofs.Order.{shown-ordered}
 use Rattle.contracts.specs.Timed.{Lent, lentBy}
@@ -27,7 +29,7 @@ use Rattle.contracts.proofs.Parts.{shown-found}
 use Rattle.contracts.proofs.Wholes.{record-of}
 use Rattle.history.specs.Demand.{Names}
 
-module _ (m : ZXMachine) (w : World) (sound : SoundWorld m w) (sized : Sized m w) (answer : List ℕ) (five : length answer ≡ 5) where
+module _ (m : ZXMachine) (w : World) (sound : SoundWorld m w) (sized : Sized m w) (answer : List ℕ) (five : length answer ≡ numberLength) where
   abbrev l : Lent
   l = lentBy m w
 
@@ -36,7 +38,7 @@ module _ (m : ZXMachine) (w : World) (sound : SoundWorld m w) (sized : Sized m w
     refl,
     (
       ap not (sound-encode (busOf m w) (sound-fits (busOf m w) sound) ∙ facts-sound (busOf m w) sound),
-      (ap not (and-both _ _ (and-both _ _ (eq-eqb (length (l .a)) 49152 (sized .a)) (eq-eqb (length (l .b)) 49152 (sized .b))) (eq-eqb (length answer) 5 five)), tt),
+      (ap not (and-both _ _ (and-both _ _ (eq-eqb (length (l .a)) pictureLength (sized .a)) (eq-eqb (length (l .b)) pictureLength (sized .b))) (eq-eqb (length answer) numberLength five)), tt),
     ),
   )
 
@@ -48,8 +50,8 @@ module _ (m : ZXMachine) (w : World) (sound : SoundWorld m w) (sized : Sized m w
   unfolding shownPart
   part-is =
       ap (part (λ bus. cond (showsA (bus .phase)) (l .a) (l .b)))
-      (shown-ordered (l .state) (length (l .a)) (length (l .b)) .noneAccepts
-      (no-cause .0, (no-cause .1 .0, (ap not (and-both _ _ (eq-eqb (length (l .a)) 49152 (sized .a)) (eq-eqb (length (l .b)) 49152 (sized .b))), tt)))
+      (shown-ordered (l .state) (length (l .a)) (length (l .b)) true .noneAccepts
+      (no-cause .0, (no-cause .1 .0, (ap not (and-both _ _ (and-both _ _ (eq-eqb (length (l .a)) pictureLength (sized .a)) (eq-eqb (length (l .b)) pictureLength (sized .b))) refl), tt)))
       ∙ ap Accepted (record-of m w sound sized))
 
   pub shown-named : Names (shownTold (l .state) (l .a) (l .b) answer) (l .a ++ l .b) (shownPicture (w .core) (w .screen))

@@ -11,11 +11,12 @@ use native.Mathlib.Nat.{mul-add-div-right, div-eq-of-lt, add-zero}
 use lib.ListN.{length, getD}
 use Rattle.machine.specs.declared.ZXMachine.{ZXMachine}
 use Rattle.machine.specs.Numbers.{specsOf}
+use Rattle.machine.specs.Limits.{longestWait}
 use Rattle.machine.specs.Timing.{blockPosition}
 use Rattle.machine.proofs.Numbered.{regular}
 use Rattle.machine.proofs.Rising.{blocks-mono}
 use Rattle.record.specs.declared.Held.the-variants as held
-use Rattle.record.specs.Record.{heldBy}
+use Rattle.record.specs.Record.{heldBy, HasRoom}
 use Rattle.record.proofs.Soundness.{facts-sound}
 use Rattle.record.proofs.Round.{held-encode}
 use Rattle.paint.proofs.Painting.{paint-out}
@@ -26,6 +27,7 @@ use Rattle.bus.specs.Turns.{closedBy}
 use Rattle.bus.proofs.OneStep.{core-goes, screen-closed, screen-goes, closes-at}
 use Rattle.bus.proofs.Runs.{clocksIn, blocksIn}
 use Rattle.bus.proofs.Closing.{completed, closing-shows}
+use Rattle.answers.specs.Answers.{timedLength}
 use Rattle.contracts.specs.Timed.{Lent, lentBy}
 use Rattle.contracts.specs.Calls.{plain, timedCall, performed, Typed, lentOf, Sized, Made, Obeyed, Each, AllTyped, NotStarted, NoSecondStart}
 use Rattle.history.specs.Log.{Shot, Frame, Shows, AllShow, follow, film}
@@ -76,7 +78,7 @@ module _ (m : ZXMachine) (w : World) (fresh : Fresh m w) (cs : List Made) (obeye
       (i .sound .clock) (demand3 m w fresh cs obeyed typed again .clocks)
 
   -- Good input is accepted: a wait of at most 65,535 clocks, while passed frames have room. So a history can go on and complete frame after frame.
-  pub good-wait : (clocks : ℕ) (answer : List ℕ) → clocks ≤ 65535 → length answer ≡ 10 → history m w cs .world .core .passed < 4294967295
+  pub good-wait : (clocks : ℕ) (answer : List ℕ) → clocks ≤ longestWait → length answer ≡ timedLength → HasRoom (history m w cs .world .core .passed)
       → performed (timedCall (plain clocks) answer) (bytesAfter m w cs .slices) .code ≡ 0
   good-wait clocks answer few size room =
       let i = history-stands m w fresh cs obeyed typed again in

@@ -8,9 +8,11 @@ use lib.Dec.{ltb, eqb}
 use lib.ListN.{length, getD, take, drop}
 use Rattle.machine.specs.declared.ZXMachine.{ZXMachine}
 use Rattle.machine.specs.Numbers.{specsOf}
+use Rattle.machine.specs.Limits.{pictureLength, borderLength}
 use Rattle.border.specs.Edge.{Edge}
 use Rattle.bus.specs.World.{Core, World}
 use Rattle.bus.specs.Time.{Op, shownPicture, hiddenPicture, worldAfter}
+use Rattle.answers.specs.Answers.{numberLength}
 use Rattle.contracts.specs.Timed.{lentBy}
 use Rattle.contracts.specs.Plain.{Told, shownTold}
 use Rattle.contracts.specs.Map.{numberIn}
@@ -60,11 +62,11 @@ lastClosed (c ∷ d ∷ cs) = lastClosed (d ∷ cs)
 
 -- the call that asks for the shown picture is accepted, and from the number on that it tells, of A with B behind it, stands this one
 abbrev pub Names : Told → List ℕ → List ℕ → Type 0
-Names t both picture = (t .code ≡ 0) × (take 49152 (drop (numberIn (t .answer)) both) ≡ picture)
+Names t both picture = (t .code ≡ 0) × (take pictureLength (drop (numberIn (t .answer)) both) ≡ picture)
 
 -- how far the border of the frame under way is painted
 abbrev pub paintedTo : Edge → ℕ
-paintedTo e = cond (e .blocked) 76800 (2 * e .pairs)
+paintedTo e = cond (e .blocked) borderLength (2 * e .pairs)
 
 -- DEMAND 3, of the calls cs on a machine m that begins with the world w: h is their history, s the bytes and sums over the same calls.
 pub record Demand3 (m : ZXMachine) (w : World) (cs : List Made) (h : History) (s : Sums) : Type 0 where
@@ -84,7 +86,7 @@ pub record Demand3 (m : ZXMachine) (w : World) (cs : List Made) (h : History) (s
   -- after a call that reports a closed frame: picture and border in memory are that frame's, and nothing of the next one's border is painted
   pub ended : lastClosed cs ≡ 1 → Ended (h .world) (h .log .done)
   -- after any call: the part that `ulb_shown_picture` names holds the newest completed frame
-  pub named : (answer : List ℕ) → length answer ≡ 5
+  pub named : (answer : List ℕ) → length answer ≡ numberLength
       → Names (shownTold (s .slices .state) (s .slices .a) (s .slices .b) answer) (s .slices .a ++ s .slices .b) (newest (h .log .done))
   -- between calls: the shown picture is the newest completed frame's
   pub shown : shownPicture (h .world .core) (h .world .screen) ≡ newest (h .log .done)
@@ -92,7 +94,7 @@ pub record Demand3 (m : ZXMachine) (w : World) (cs : List Made) (h : History) (s
   pub hidden : hiddenPicture (h .world .core) (h .world .screen)
       ≡ drawn (h .log .current .sights) ++ drop (8 * lastAt (h .log .current .sights)) (older (h .log .done))
   -- the border: this frame's as far as it is painted, and behind that the newest completed frame's
-  pub border : (pixel : ℕ) → pixel < 76800
+  pub border : (pixel : ℕ) → pixel < borderLength
       → getD (h .world .edge .pixels) pixel 0
       ≡ cond (ltb pixel (paintedTo (h .world .edge))) (borderColour pixel (h .log .current .enter) (h .log .current .inks)) (borderOf (h .log .done) pixel)
   -- "No accepted port call takes under 4 or over 16 clocks."

@@ -11,6 +11,7 @@ use lib.ListN.{getD, take, drop}
 use Rattle.machine.specs.declared.ZXMachine.{ZXMachine}
 use Rattle.machine.specs.declared.ZXMachine.the-variants.{Sinclair48K, Sinclair128K}
 use Rattle.machine.specs.Numbers.{specsOf}
+use Rattle.machine.specs.Limits.{borderLength}
 use Rattle.machine.specs.Pages.{passed}
 use Rattle.paint.specs.Paint.{blockAt, blocks}
 use Rattle.memory.specs.Memory.{ramPage}
@@ -201,7 +202,7 @@ pub record Shows (s : Shot) (f : Frame) : Type 0 where
   pub whole : lastAt (f .sights) ≡ 6144
   -- and the picture is nothing but what was so drawn
   pub picture : s .picture ≡ drawn (f .sights)
-  pub border : (pixel : ℕ) → pixel < 76800 → getD (s .border) pixel 0 ≡ borderColour pixel (f .enter) (f .inks)
+  pub border : (pixel : ℕ) → pixel < borderLength → getD (s .border) pixel 0 ≡ borderColour pixel (f .enter) (f .inks)
 
 abbrev pub AllShow : List Shot → List Frame → Type 0
 AllShow [] [] = Unit {0}

@@ -9,6 +9,7 @@ use Rattle.machine.specs.declared.ZXSpecs.{ZXSpecs}
 use Rattle.machine.specs.declared.BlocksCount.{BlocksCount}
 use Rattle.machine.specs.declared.BorderPlace.{BorderPlace}
 use Rattle.machine.specs.declared.BorderPlace.the-variants.{At, FrameEnd}
+use Rattle.machine.specs.Limits.{borderLength}
 
 -- "6 5 4 3 2 1 0 0"
 abbrev pub pattern : List ℕ
@@ -60,7 +61,7 @@ borderAt s clock =
 -- "Position = 320 x line + pixel"; frame end is behind the last of the 76,800 pixels
 abbrev pub placePosition : BorderPlace → ℕ
 placePosition (At line pixel) = 320 * line + pixel
-placePosition FrameEnd = 76800
+placePosition FrameEnd = borderLength
 
 abbrev pub borderPosition : ZXSpecs → ℕ → ℕ
 borderPosition s clock = placePosition (borderAt s clock)

@@ -1,6 +1,6 @@
 // What it is: the timing of the two machines, after rustzx's machine/mod.rs and specs.rs: delay, block and border position, interrupt, contended pages and ports, memory sizes.
 // What it promises: at every 32-bit clock each function gives exactly what document 01's "Numbers of the two machines" says; none asks anything of its caller.
-// Where its definitions stand: specs/Numbers.antt (the table of numbers), specs/Timing.antt (the readings of a clock), specs/Contended.antt (pages and ports).
+// Where its definitions stand: specs/Numbers.antt (the table of numbers), specs/Limits.antt (lengths and limits that are no machine's own), specs/Timing.antt (the readings of a clock), specs/Contended.antt (pages and ports).
 ghost use mathlib.Core.Path.{_≡_};
 ghost use Prim.Native.Nat.{_/_};
 ghost use lib.Dec.{leb};
@@ -46,6 +46,15 @@ const SPECS_128K: ZXSpecs = ZXSpecs {
     ram: 131072,
     rom: 32768,
 };
+
+// Bytes of a picture, of the border, and of a page; clocks of the longest wait.
+pub const PICTURE_LENGTH: usize = 49152;
+
+pub const BORDER_LENGTH: usize = 76800;
+
+pub const PAGE_LENGTH: usize = 16384;
+
+pub const LONGEST_WAIT: u32 = 65535;
 
 // How many 8 x 1 blocks have been fetched: whole lines, and columns of the next one.
 pub struct BlocksCount {

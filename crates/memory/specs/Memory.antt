@@ -5,6 +5,7 @@ use mathlib.Core.List.{List, _++_}
 use lib.ListN.{getD, set, take, drop}
 use Rattle.machine.specs.declared.ZXMachine.{ZXMachine}
 use Rattle.machine.specs.Numbers.{specsOf}
+use Rattle.machine.specs.Limits.{pageLength}
 use Rattle.memory.specs.declared.Page.{Page}
 use Rattle.memory.specs.declared.Page.the-variants as page
 use Rattle.memory.specs.declared.Place.{Place}
@@ -13,12 +14,12 @@ use Rattle.memory.specs.Paging.{pageAt}
 
 -- the byte of a page at an offset, among all the bytes of ROM or of RAM
 abbrev pub placeIn : Page → ℕ → Place
-placeIn (page.Rom p) offset = Rom (16384 * p + offset)
-placeIn (page.Ram p) offset = Ram (16384 * p + offset)
+placeIn (page.Rom p) offset = Rom (pageLength * p + offset)
+placeIn (page.Ram p) offset = Ram (pageLength * p + offset)
 
 -- the byte at an address: its block's page, at the address's offset in the block
 unfoldable pub placeOf : ZXMachine → ℕ → ℕ → Place
-placeOf m paging addr = placeIn (pageAt m paging (addr / 16384)) (addr % 16384)
+placeOf m paging addr = placeIn (pageAt m paging (addr / pageLength)) (addr % pageLength)
 
 -- "byte read"
 abbrev pub byteIn : Place → List ℕ → List ℕ → ℕ
@@ -38,17 +39,17 @@ poked m paging ram addr value = pokedIn (placeOf m paging addr) ram value
 
 -- "RAM page by number"
 abbrev pub ramPage : ℕ → List ℕ → List ℕ
-ramPage p ram = take 16384 (drop (16384 * p) ram)
+ramPage p ram = take pageLength (drop (pageLength * p) ram)
 
 -- "the 16 KiB at a block as a part of the lent ROM or RAM"
 abbrev pub pagePart : Page → List ℕ → List ℕ → List ℕ
-pagePart (page.Rom p) rom ram = take 16384 (drop (16384 * p) rom)
+pagePart (page.Rom p) rom ram = take pageLength (drop (pageLength * p) rom)
 pagePart (page.Ram p) rom ram = ramPage p ram
 
 -- a ROM and a RAM of these lengths have the page whole
 abbrev pub Holds : Page → ℕ → ℕ → Type 0
-Holds (page.Rom p) rom ram = 16384 * p + 16384 ≤ rom
-Holds (page.Ram p) rom ram = 16384 * p + 16384 ≤ ram
+Holds (page.Rom p) rom ram = pageLength * p + pageLength ≤ rom
+Holds (page.Ram p) rom ram = pageLength * p + pageLength ≤ ram
 
 -- "a part reaches C by … its start as the number, RAM counted after ROM"
 abbrev pub startOf : ZXMachine → Place → ℕ
@@ -60,7 +61,7 @@ partStart m p = startOf m (placeIn p 0)
 
 -- "page load (16,384 lent bytes into a RAM page)": RAM afterwards
 unfoldable pub loaded : ℕ → List ℕ → List ℕ → List ℕ
-loaded p bytes ram = take (16384 * p) ram ++ bytes ++ drop (16384 * p + 16384) ram
+loaded p bytes ram = take (pageLength * p) ram ++ bytes ++ drop (pageLength * p + pageLength) ram
 
 -- a place lies within the machine's ROM or RAM
 abbrev pub Within : ZXMachine → Place → Type 0

@@ -8,6 +8,7 @@ use lib.ListN.{getD}
 use Rattle.machine.specs.declared.ZXMachine.{ZXMachine}
 use Rattle.machine.specs.declared.ZXMachine.the-variants.{Sinclair48K, Sinclair128K}
 use Rattle.machine.specs.Contended.{bankContended}
+use Rattle.machine.specs.Limits.{pageLength}
 use Rattle.memory.specs.declared.Page.{Page}
 use Rattle.memory.specs.declared.Page.the-variants.{Rom, Ram}
 use Rattle.memory.specs.declared.Paged.{Paged}
@@ -41,7 +42,7 @@ pageContended m (Ram page) = bankContended m page
 
 -- an address is contended "if its page is contended"
 abbrev pub addrContended : ZXMachine → ℕ → ℕ → Bool
-addrContended m paging addr = pageContended m (pageAt m paging (addr / 16384))
+addrContended m paging addr = pageContended m (pageAt m paging (addr / pageLength))
 
 -- "bit 5 locks after that same write has remapped": it is the byte held before that locks. "on 48K 0 with nothing changed"
 unfoldable pub write7ffd : ZXMachine → ℕ → ℕ → Paged

@@ -5,6 +5,7 @@ ghost use mathlib.Core.Path.{_≡_};
 ghost use Prim.Native.Nat.{_+_, _*_, _/_, _≤_};
 ghost use lib.ListN.{length};
 ghost use Rattle.machine.specs.Numbers.{specsOf};
+ghost use Rattle.machine.specs.Limits.{pageLength};
 ghost use Rattle.memory.specs.Paging.{pageAt, shownPage, addrContended, write7ffd, pagedCode, pagingAfter, lastPage, pageExists};
 ghost use Rattle.memory.specs.Memory.{placeOf, byteAt, poked, Holds, pagePart, ramPage, partStart, loaded};
 use machine::ZXMachine;
@@ -51,7 +52,7 @@ pub fn get_bank_type(m: ZXMachine, paging: u8, block: u32) -> Page
 
 // The page at an address.
 pub fn get_page(m: ZXMachine, paging: u8, addr: u16) -> Page
-    ensures { λ r. ⌜ r ≡ pageAt m paging (addr / 16384) ⌝ }
+    ensures { λ r. ⌜ r ≡ pageAt m paging (addr / pageLength) ⌝ }
 {
     get_bank_type(m, paging, (addr / 16384) as u32)
 }
@@ -137,8 +138,8 @@ pub fn place_of(m: ZXMachine, paging: u8, addr: u16) -> Place
     let page = get_page(m, paging, addr);
     let offset = (addr % 16384) as usize;
     match page {
-        Page::Rom(p) => Place::Rom(16384 * p as usize + offset),
-        Page::Ram(p) => Place::Ram(16384 * p as usize + offset),
+        Page::Rom(p) => Place::Rom(machine::PAGE_LENGTH * p as usize + offset),
+        Page::Ram(p) => Place::Ram(machine::PAGE_LENGTH * p as usize + offset),
     }
 }
 
@@ -175,23 +176,23 @@ pub fn page_data<'a>(page: Page, rom: &'a [u8], ram: &'a [u8]) -> &'a [u8]
 {
     match page {
         Page::Rom(p) => {
-            let at = 16384 * p as usize;
-            &rom[at..at + 16384]
+            let at = machine::PAGE_LENGTH * p as usize;
+            &rom[at..at + machine::PAGE_LENGTH]
         }
         Page::Ram(p) => {
-            let at = 16384 * p as usize;
-            &ram[at..at + 16384]
+            let at = machine::PAGE_LENGTH * p as usize;
+            &ram[at..at + machine::PAGE_LENGTH]
         }
     }
 }
 
 // A RAM page by its number, as a part of the lent RAM.
 pub fn ram_page_data(ram: &[u8], page: u32) -> &[u8]
-    requires { ⌜ 16384 * page + 16384 ≤ length (now ram) ⌝ }
+    requires { ⌜ pageLength * page + pageLength ≤ length (now ram) ⌝ }
     ensures { λ r. ⌜ now r ≡ ramPage page (now (ram .entry)) ⌝ }
 {
-    let start = 16384 * page as usize;
-    &ram[start..start + 16384]
+    let start = machine::PAGE_LENGTH * page as usize;
+    &ram[start..start + machine::PAGE_LENGTH]
 }
 
 // Where a page starts as a number, RAM counted after ROM.
@@ -215,10 +216,10 @@ fn rom_size(m: ZXMachine) -> u32
 
 // A page's 16,384 bytes loaded into RAM.
 pub fn load_page(ram: &mut [u8], page: u32, src: &[u8])
-    requires { ⌜ (length (now src) ≡ 16384) × (16384 * page + 16384 ≤ length (now ram)) ⌝ }
+    requires { ⌜ (length (now src) ≡ pageLength) × (pageLength * page + pageLength ≤ length (now ram)) ⌝ }
     ensures { λ _. ⌜ now (ram .exit) ≡ loaded page (now (src .entry)) (now (ram .entry)) ⌝ }
 {
-    let at = 16384 * page as usize;
-    let end = at + 16384;
+    let at = machine::PAGE_LENGTH * page as usize;
+    let end = at + machine::PAGE_LENGTH;
     bytes::copy(src, &mut ram[at..end]);
 }

@@ -15,6 +15,10 @@ use Rattle.ports.specs.declared.Mouse.{Mouse}
 use Rattle.ports.specs.declared.Mouse.the-variants as mouse
 use Rattle.ports.specs.declared.Devices.{Devices}
 
+-- "35 bytes"
+abbrev pub devicesLength : ℕ
+devicesLength = 35
+
 -- byte k of the record
 abbrev pub byteAt : List ℕ → ℕ → ℕ
 byteAt s k = getD s k 0

@@ -5,13 +5,16 @@ ghost use mathlib.Core.Path.{_≡_};
 ghost use Prim.Native.Nat.{_+_, _<_};
 ghost use lib.ListN.{length};
 ghost use Rattle.machine.specs.Numbers.{specsOf, Regular};
-ghost use Rattle.ports.specs.Devices.{extenderOf, ayOf, joystickOf, mouseOf, rowsOf, devicesOf, flagsOf};
+ghost use Rattle.ports.specs.Devices.{extenderOf, ayOf, joystickOf, mouseOf, rowsOf, devicesOf, flagsOf, devicesLength};
 ghost use Rattle.ports.specs.Keys.{selected, keysRead};
 ghost use Rattle.ports.specs.Order.{withJoystick, withAy, withMouse, readOrder, portOrder, writeOrder, writtenCode};
 ghost use Rattle.offsets.specs.Offset.{lineStart, attributeStart};
 ghost use Rattle.ports.specs.Floating.{floatingIn, floatingPlace, floatingAddress};
 use machine::ZXMachine;
 use machine::ZXSpecs;
+
+// Bytes of the lent device record.
+pub const DEVICES_LENGTH: usize = 35;
 
 // The extender is present when it claims this call's port.
 pub enum Extender {
@@ -118,7 +121,7 @@ fn mouse_from(flag: u8, buttons: u8, x: u8, y: u8) -> Mouse
 
 // The key rows are the first 24 bytes.
 fn rows_from(s: &[u8]) -> [u8; 24]
-    requires { ⌜ length (now s) ≡ 35 ⌝ }
+    requires { ⌜ length (now s) ≡ devicesLength ⌝ }
     ensures { λ r. ⌜ r ≡ rowsOf (now (s .entry)) ⌝ }
 {
     let mut rows = [0u8; 24];
@@ -132,7 +135,7 @@ fn rows_from(s: &[u8]) -> [u8; 24]
 
 // The lent 35 bytes as a record, flags judged or not: a flag that is not 0 is a present device.
 pub fn devices_from(s: &[u8]) -> Devices
-    requires { ⌜ length (now s) ≡ 35 ⌝ }
+    requires { ⌜ length (now s) ≡ devicesLength ⌝ }
     ensures { λ r. ⌜ r ≡ devicesOf (now (s .entry)) ⌝ }
 {
     let rows = rows_from(s);
@@ -152,7 +155,7 @@ pub fn devices_from(s: &[u8]) -> Devices
 
 // Whether the tape bit and the four flags are 0 or 1; if not, the call is refused by number 4.
 pub fn flags(s: &[u8]) -> bool
-    requires { ⌜ length (now s) ≡ 35 ⌝ }
+    requires { ⌜ length (now s) ≡ devicesLength ⌝ }
     ensures { λ r. ⌜ r ≡ flagsOf (now (s .entry)) ⌝ }
 {
     (s[24] < 2) & (s[25] < 2) & (s[27] < 2) & (s[29] < 2) & (s[31] < 2)

@@ -5,7 +5,7 @@ use mathlib.Core.Path.{_≡_, refl, sym}
 use mathlib.Core.List.{List}
 use mathlib.Core.Bool.{Bool, true, false, _&&_, and-true, and-false}
 use native.Mathlib.Omega.{arith}
-use borrow.Author.Tests.{lt-ltb, eq-eqb, ne-eqb, eqb-true, eqb-false}
+use borrow.Author.Tests.{lt-ltb, le-leb, eq-eqb, ne-eqb, eqb-true, eqb-false}
 use lib.Dec.{ltb, eqb}
 use lib.ListN.{length}
 use Rattle.machine.specs.declared.ZXMachine.{ZXMachine}
@@ -15,7 +15,7 @@ use Rattle.machine.specs.Timing.{frameEnd}
 use Rattle.record.specs.declared.Bus.{Bus}
 use Rattle.record.specs.declared.Held.the-variants.{WrongLength, Unsound, Sound}
 use Rattle.record.specs.Words.{byteAt, wordAt, longAt}
-use Rattle.record.specs.Record.{machineOf, machineAt, clockAt, passedAt, phaseAt, paintedAt, pagingAt, reportedAt, colourAt, blockedAt, pairsAt, inRange, clockInFrame, paintedInPlace, pairsInPlace, blockedAtEnd, pagingAllowed, soundBus, marked, codesInRange, recordOf, soundBytes, heldBy, recordLength}
+use Rattle.record.specs.Record.{lastFrame, machineOf, machineAt, clockAt, passedAt, phaseAt, paintedAt, pagingAt, reportedAt, colourAt, blockedAt, pairsAt, inRange, clockInFrame, paintedInPlace, pairsInPlace, blockedAtEnd, pagingAllowed, soundBus, marked, codesInRange, recordOf, soundBytes, heldBy, recordLength}
 
 -- a record made of what stands at the fields' places
 pub decoded : (s : List ℕ) (m : ZXMachine) (clock passed painted pairs : ℕ)
@@ -38,7 +38,7 @@ decoded s m clock passed painted pairs e f g h i = rw (e, f, g, h, i)
 
 -- the ranges that the types give need no test
 pub by-types : (b : Bus) → b .passed < 2 ^ 32 → b .paging < 256 → (ltb (b .phase) 32 && ltb (b .reported) 8 && ltb (b .colour) 8) ≡ inRange b
-by-types b p g = rw (lt-ltb (b .passed) (2 ^ 32) p, lt-ltb (b .paging) 256 g, and-true)
+by-types b p g = rw (le-leb (b .passed) lastFrame (omega (arith, p)), lt-ltb (b .paging) 256 g, and-true)
 
 -- the tests of the three places, as the machine's functions answer them: where the beam is blocked, and where it is not
 module _ (b : Bus) (n p : Bool) (hn : n ≡ paintedInPlace b) (hp : p ≡ pairsInPlace b) where

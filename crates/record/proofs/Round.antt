@@ -43,7 +43,7 @@ sound-fits b f =
     let s = specsOf (b .machine) in
     record {
       clock = omega (arith, f .clock, regular (b .machine) .short);
-      passed = f .passed;
+      passed = omega (arith, f .passed);
       phase = omega (arith, f .phase);
       painted = omega (arith, f .painted, position-small s (b .clock));
       paging = f .paging;
@@ -81,7 +81,7 @@ pub encode-injective : (a b : Bus) → soundBus a ≡ true → soundBus b ≡ tr
 encode-injective a b s t e = sym (decode-encode-sound a s) ∙ ap recordOf e ∙ decode-encode-sound b t
 
 -- A record has 23 bytes.
-pub record-length : (b : Bus) → length (recordBytes b) ≡ 23
+pub record-length : (b : Bus) → length (recordBytes b) ≡ recordLength
 record-length b = refl
 
 machine-small : (m : ZXMachine) → ltb (machineNumber m) 2 ≡ true

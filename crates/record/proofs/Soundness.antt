@@ -1,12 +1,12 @@
 -- The test of a record's soundness says exactly the facts of specs/Sound, one for each clause of document 01.
 -- Assumes nothing.
-use Prim.Native.Nat.{ℕ, _/_, _^_, _≤_}
+use Prim.Native.Nat.{ℕ, _/_, _≤_}
 use mathlib.Core.Path.{_≡_, refl}
 use mathlib.Core.Bool.{Bool, true, false, not, _&&_, _||_, false≢true}
 use mathlib.Core.List.{List, [], _∷_}
 use native.Mathlib.Omega.{arith}
 use borrow.Author.Tests.{ltb-true, leb-true, eqb-true, lt-ltb, le-leb, eq-eqb}
-use lib.Dec.{ltb, eqb}
+use lib.Dec.{ltb, leb, eqb}
 use Rattle.laws.proofs.Cases.{and-left, and-right, and-both}
 use Rattle.laws.proofs.Conjunction.{each}
 use Rattle.machine.specs.declared.ZXMachine.{ZXMachine}
@@ -14,7 +14,7 @@ use Rattle.machine.specs.declared.ZXMachine.the-variants.{Sinclair48K, Sinclair
 use Rattle.machine.specs.Numbers.{specsOf}
 use Rattle.machine.specs.Timing.{blocksAt, blockPosition, borderAt, borderPosition, frameEnd}
 use Rattle.record.specs.declared.Bus.{Bus}
-use Rattle.record.specs.Record.{clockInFrame, paintedInPlace, pairsInPlace, blockedAtEnd, pagingAllowed, soundBus, startRecord}
+use Rattle.record.specs.Record.{lastFrame, clockInFrame, paintedInPlace, pairsInPlace, blockedAtEnd, pagingAllowed, soundBus, startRecord}
 use Rattle.record.specs.Sound.{Sound}
 
 -- a blocked beam is at frame end, with pairs 0
@@ -52,11 +52,11 @@ pub sound-facts : (b : Bus) → soundBus b ≡ true → Sound b
 unfolding soundBus
 sound-facts b t =
     let s = specsOf (b .machine) in
-    let test = each (ltb (b .passed) (2 ^ 32)) (later b) t in
+    let test = each (leb (b .passed) lastFrame) (later b) t in
     let half = leb-true (b .pairs) (borderPosition s (b .clock) / 2) (test 7) in
     let held = blocked-end (b .blocked) (frameEnd s (b .clock)) (b .pairs) (test 8) in
     record {
-      passed = ltb-true (b .passed) (2 ^ 32) (test 0);
+      passed = leb-true (b .passed) lastFrame (test 0);
       phase = ltb-true (b .phase) 32 (test 1);
       paging = ltb-true (b .paging) 256 (test 2);
       reported = ltb-true (b .reported) 8 (test 3);
@@ -76,7 +76,7 @@ facts-sound b f =
     let s = specsOf (b .machine) in
     let half : b .pairs ≤ borderPosition s (b .clock) / 2 = omega (arith, f .pairs) in
     rw (
-      lt-ltb (b .passed) (2 ^ 32) (f .passed),
+      le-leb (b .passed) lastFrame (f .passed),
       lt-ltb (b .phase) 32 (f .phase),
       lt-ltb (b .paging) 256 (f .paging),
       lt-ltb (b .reported) 8 (f .reported),

@@ -1,6 +1,6 @@
 -- Document 01, "Lent memory", second paragraph: the 23 bytes of the state record, what they stand for, and when they are sound.
 -- Assumes nothing.
-use Prim.Native.Nat.{ℕ, _+_, _/_, _^_}
+use Prim.Native.Nat.{ℕ, _+_, _/_, _<_}
 use mathlib.Core.List.{List, [], _∷_, _++_}
 use mathlib.Core.Bool.{Bool, true, false, cond, not, _&&_, _||_}
 use lib.ListN.{length}
@@ -86,6 +86,17 @@ pairsAt = blockedAt + 1
 abbrev pub recordLength : ℕ
 recordLength = pairsAt + 2
 
+-- "passed frames (32)": the last number that they can have
+abbrev pub lastFrame : ℕ
+lastFrame = 4294967295
+
+-- they have room for one more frame, or none
+abbrev pub HasRoom : ℕ → Type 0
+HasRoom passed = passed < lastFrame
+
+abbrev pub noRoom : ℕ → Bool
+noRoom passed = eqb passed lastFrame
+
 -- the bytes of a record whose clock and painted blocks alone have moved
 unfoldable pub advanced : List ℕ → ℕ → ℕ → List ℕ
 advanced s clock painted = sets (sets s clockAt (bytes32 clock)) paintedAt (bytes16 painted)
@@ -108,7 +119,7 @@ recordOf s =
 
 -- "ranges hold", of the fields: "passed frames (32); flash phase 0..31; last 7FFD byte; reported border 0..7; beam colour 0..7"
 abbrev pub inRange : Bus → Bool
-inRange b = ltb (b .passed) (2 ^ 32) && ltb (b .phase) 32 && ltb (b .paging) 256 && ltb (b .reported) 8 && ltb (b .colour) 8
+inRange b = leb (b .passed) lastFrame && ltb (b .phase) 32 && ltb (b .paging) 256 && ltb (b .reported) 8 && ltb (b .colour) 8
 
 -- "frame clock < frame"
 abbrev pub clockInFrame : Bus → Bool
@@ -166,4 +177,35 @@ startRecord m =
       colour = 7;
       blocked = false;
       pairs = 0;
+    }
+
+-- the record with one field changed: another 7FFD byte, and other passed frames
+abbrev pub withPaging : ℕ → Bus → Bus
+withPaging v bus =
+    record {
+      machine = bus .machine;
+      clock = bus .clock;
+      passed = bus .passed;
+      phase = bus .phase;
+      painted = bus .painted;
+      paging = v;
+      reported = bus .reported;
+      colour = bus .colour;
+      blocked = bus .blocked;
+      pairs = bus .pairs;
+    }
+
+abbrev pub withPassed : ℕ → Bus → Bus
+withPassed n bus =
+    record {
+      machine = bus .machine;
+      clock = bus .clock;
+      passed = n;
+      phase = bus .phase;
+      painted = bus .painted;
+      paging = bus .paging;
+      reported = bus .reported;
+      colour = bus .colour;
+      blocked = bus .blocked;
+      pairs = bus .pairs;
     }

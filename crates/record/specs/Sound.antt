@@ -1,16 +1,17 @@
 -- The clauses of a record's soundness as facts, with names: what a contract asks, and what a proof reads off.
 -- `soundBus` is the test of them (proofs/Soundness.antt: `sound-facts`, `facts-sound`).
 -- Assumes nothing.
-use Prim.Native.Nat.{_*_, _^_, _<_, _≤_}
+use Prim.Native.Nat.{_*_, _<_, _≤_}
 use mathlib.Core.Path.{_≡_}
 use mathlib.Core.Bool.{true}
 use Rattle.machine.specs.declared.ZXMachine.the-variants.{Sinclair48K}
 use Rattle.machine.specs.Numbers.{specsOf}
 use Rattle.machine.specs.Timing.{blockPosition, borderPosition, frameEnd}
 use Rattle.record.specs.declared.Bus.{Bus}
+use Rattle.record.specs.Record.{lastFrame}
 
 pub record Sound (b : Bus) : Type 0 where
-  pub passed : b .passed < 2 ^ 32
+  pub passed : b .passed ≤ lastFrame
   pub phase : b .phase < 32
   pub paging : b .paging < 256
   pub reported : b .reported < 8

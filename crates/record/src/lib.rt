@@ -62,7 +62,10 @@ const BLOCKED: usize = COLOUR + 1;
 
 const PAIRS: usize = BLOCKED + 1;
 
-const LENGTH: usize = PAIRS + 2;
+pub const LENGTH: usize = PAIRS + 2;
+
+// The last number of passed frames.
+pub const LAST_FRAME: u32 = 4294967295;
 
 pub fn machine_from(n: u8) -> ZXMachine
     ensures { λ r. ⌜ r ≡ machineOf n ⌝ }
@@ -139,7 +142,7 @@ fn decode(s: &[u8]) -> Bus
 }
 
 // The record's bytes.
-pub fn bytes(b: Bus) -> [u8; 23]
+pub fn bytes(b: Bus) -> [u8; LENGTH]
     ensures { λ r. ⌜ r ≡ recordBytes b ⌝ }
 {
     let m = b.machine;

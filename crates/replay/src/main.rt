@@ -52,7 +52,7 @@ fn play_timed(
     b: &mut [u8],
     border: &mut [u8],
 ) {
-    let mut answer = [0u8; 10];
+    let mut answer = [0u8; answers::TIMED_LENGTH];
     let before = script::byte_at(state, 17);
     let refusal = timed(call, state, devices, ram, a, b, border, &mut answer);
     let value = script::value_seen(
@@ -66,7 +66,7 @@ fn play_timed(
 }
 
 fn write_7ffd(call: Call, state: &mut [u8]) {
-    let mut answer = [0u8; 5];
+    let mut answer = [0u8; answers::NUMBER_LENGTH];
     let before = script::byte_at(state, 17);
     let refusal = ulb_state::ulb_write_7ffd(state, call.x, &mut answer);
     if refusal == 0 {
@@ -78,7 +78,7 @@ fn write_7ffd(call: Call, state: &mut [u8]) {
 
 // Calls that answer a number of the record alone.
 fn ask_state(call: Call, state: &[u8]) {
-    let mut answer = [0u8; 5];
+    let mut answer = [0u8; answers::NUMBER_LENGTH];
     let refusal = if call.op == b'8' {
         ulb_state::ulb_read_7ffd(state, &mut answer)
     } else if call.op == b'T' {
@@ -91,7 +91,7 @@ fn ask_state(call: Call, state: &[u8]) {
 
 // Calls that answer a number of the memory or the pictures.
 fn ask_memory(call: Call, state: &[u8], rom: &[u8], ram: &[u8], a: &[u8], b: &[u8]) {
-    let mut answer = [0u8; 5];
+    let mut answer = [0u8; answers::NUMBER_LENGTH];
     let refusal = if call.op == b'G' {
         ulb_memory::ulb_read_internal(state, rom, ram, call.y, &mut answer)
     } else if call.op == b'Q' {
@@ -105,7 +105,7 @@ fn ask_memory(call: Call, state: &[u8], rom: &[u8], ram: &[u8], a: &[u8], b: &[u
 }
 
 fn ask_helper(call: Call) {
-    let mut answer = [0u8; 5];
+    let mut answer = [0u8; answers::NUMBER_LENGTH];
     let refusal = if call.op == b'a' {
         ulb_helpers::ulb_bitmap_line_addr(call.z, &mut answer)
     } else if call.op == b'b' {
@@ -133,8 +133,8 @@ fn load_filled(call: Call, state: &[u8], ram: &mut [u8], page: &mut [u8]) {
 }
 
 fn load_page(call: Call, state: &[u8], ram: &mut [u8], spare: &mut [u8]) {
-    if 16384 <= spare.len() {
-        load_filled(call, state, ram, &mut spare[..16384]);
+    if machine::PAGE_LENGTH <= spare.len() {
+        load_filled(call, state, ram, &mut spare[..machine::PAGE_LENGTH]);
     }
 }
 
@@ -285,14 +285,14 @@ fn play_all(
 }
 
 fn main() {
-    let mut state = [0u8; 23];
-    let mut devices = [0u8; 35];
+    let mut state = [0u8; record::LENGTH];
+    let mut devices = [0u8; ports::DEVICES_LENGTH];
     let mut rom = [0u8; 32768];
     let mut ram = [0u8; 131072];
-    let mut a = [0u8; 49152];
-    let mut b = [0u8; 49152];
-    let mut border = [0u8; 76800];
-    let mut spare = [0u8; 49152];
+    let mut a = [0u8; machine::PICTURE_LENGTH];
+    let mut b = [0u8; machine::PICTURE_LENGTH];
+    let mut border = [0u8; machine::BORDER_LENGTH];
+    let mut spare = [0u8; machine::PICTURE_LENGTH];
     play_all(
         &mut state,
         &mut devices,

@@ -1,6 +1,6 @@
 -- A 7FFD write, a byte written and a page loaded keep the two machines related, and none of them panics.
 -- Assumes nothing.
-use mathlib.Core.Path.{_≡_, refl, sym, ap, _∙_, subst}
+use mathlib.Core.Path.{_≡_, refl, sym, ap, _∙_, subst, subst⁻¹}
 use mathlib.Core.Bool.{Bool, true, false, cond, not}
 use mathlib.Core.List.{List}
 use Prim.Native.Nat.{ℕ, zero, suc, _+_, _-_, _*_, _/_, _%_, _<_, _≤_}
@@ -302,6 +302,10 @@ refresh-page m bank b mem s long there local =
     ap (λ (r : Run (List ℕ)). andThen r (λ bytes. each 0 16384 (refreshByte m bank bytes) (done s))) (rw there at (page-data-is m mem long bank))
     ∙ refresh-loop m bank b (ramPage bank (mem .ram)) s local 16384
 
+-- a bank mirrors a page of the RAM as it stands
+mirrors-there : (b : ScreenBank) (p : ℕ) (ram there : List ℕ) → ram ≡ there → Mirrors b (ramPage p there) → Mirrors b (ramPage p ram)
+mirrors-there b p ram there e h = subst⁻¹ (λ (x : List ℕ). Mirrors b (ramPage p x)) e h
+
 -- REFRESH: refresh_memory_dependent_devices leaves every bank mirroring its page, whatever the banks held, and touches nothing else.
 pub refresh-is : (m : ZXMachine) (mem : ZXMemory) (s : ZXScreen) (c c′ : Core) (w : Screen) → SameScreen m s c w
     → c′ .phase ≡ c .phase → c′ .paging ≡ c .paging → c′ .ram ≡ mem .ram → length (mem .ram) ≡ specsOf (ourMachine m) .ram
@@ -311,18 +315,17 @@ refresh-is Sinclair48K mem s c c′ w r p q u long =
       value = withBank 0 (putAll (ramPage 0 (mem .ram)) 16384) s;
       ends = refresh-page Sinclair48K 0 0 mem s long refl refl;
       holds = banks-screen _ _ _ s c c′ w r p q
-          (rw u (all-mirrors (ramPage 0 (mem .ram)) (s .bank0) (r .mirrored .bitmapLong) (r .mirrored .attributesLong)));
+          (mirrors-there _ 0 _ _ u (all-mirrors (ramPage 0 (mem .ram)) (s .bank0) (r .mirrored .bitmapLong) (r .mirrored .attributesLong)));
     }
 refresh-is Sinclair128K mem s c c′ w r p q u long =
     let first : ZXScreen = withBank 0 (putAll (ramPage 5 (mem .ram)) 16384) s in
     record {
       value = withBank 1 (putAll (ramPage 7 (mem .ram)) 16384) first;
       ends = ap (refreshPage Sinclair128K 7 mem) (refresh-page Sinclair128K 5 0 mem s long refl refl) ∙ refresh-page Sinclair128K 7 1 mem first long refl refl;
-      holds = banks-screen _ _ _ s c c′ w r p q
-          (rw u (
-            all-mirrors (ramPage 5 (mem .ram)) (s .bank0) (r .mirrored .0 .bitmapLong) (r .mirrored .0 .attributesLong),
-            all-mirrors (ramPage 7 (mem .ram)) (s .bank1) (r .mirrored .1 .bitmapLong) (r .mirrored .1 .attributesLong),
-          ));
+      holds = banks-screen _ _ _ s c c′ w r p q (
+        mirrors-there _ 5 _ _ u (all-mirrors (ramPage 5 (mem .ram)) (s .bank0) (r .mirrored .0 .bitmapLong) (r .mirrored .0 .attributesLong)),
+        mirrors-there _ 7 _ _ u (all-mirrors (ramPage 7 (mem .ram)) (s .bank1) (r .mirrored .1 .bitmapLong) (r .mirrored .1 .attributesLong)),
+      );
     }
 
 -- PAGE LOAD: the copy and its refresh do not panic where the page is there, and keep the two machines related.

@@ -8,7 +8,7 @@ use lib.Dec.{leb}
 use lib.ListN.{length}
 use Rattle.machine.specs.declared.ZXMachine as ours
 use Rattle.machine.specs.Timing.{interrupt}
-use Rattle.record.specs.Record.{flagByte}
+use Rattle.record.specs.Record.{flagByte, HasRoom}
 use Rattle.memory.specs.Paging as paging
 use Rattle.memory.specs.Paging.{pageAt, pageExists, pagedCode}
 use Rattle.memory.specs.Memory.{byteAt, ramPage, pagePart}
@@ -25,6 +25,7 @@ use Rattle.rustzx.specs.Related.{attachedOf}
 use Rattle.rustzx.specs.Controller as rust
 use Rattle.rustzx.specs.Controller.{ZXController, Reached, Wrote}
 use Rattle.bus.specs.Pokes.{byteWrite, pageLoad, passedReset}
+use Rattle.machine.specs.Limits.{longestWait}
 
 -- the calls, each by its name in the Rust, with its arguments; `shownPicture` and `border` are the two `frame_buffer`s
 pub data Call : Type 0 where
@@ -146,11 +147,11 @@ after m k w = ranBy (partOf m k) (fresh m w) .world
 -- what the eight refusals leave of such a call: no wait above 65,535 clocks (5), passed frames below 4,294,967,295 for a timed call (6), a tape
 -- bit of 0 or 1 (4), a page that is there and 16,384 bytes for it (7, 2), a block of at most 3 (8); a byte is a byte
 abbrev pub Accepted : ours.ZXMachine → Call → World → Type 0
-Accepted m (waitInternal n) w = (n ≤ 65535) × (w .core .passed < 4294967295)
-Accepted m (waitMreq addr n) w = (n ≤ 65535) × (w .core .passed < 4294967295)
-Accepted m (waitNoMreq addr n) w = (n ≤ 65535) × (w .core .passed < 4294967295)
-Accepted m (readIo d port) w = (d .tape < 2) × (w .core .passed < 4294967295)
-Accepted m (writeIo d port value) w = (value < 256) × (w .core .passed < 4294967295)
+Accepted m (waitInternal n) w = (n ≤ longestWait) × HasRoom (w .core .passed)
+Accepted m (waitMreq addr n) w = (n ≤ longestWait) × HasRoom (w .core .passed)
+Accepted m (waitNoMreq addr n) w = (n ≤ longestWait) × HasRoom (w .core .passed)
+Accepted m (readIo d port) w = (d .tape < 2) × HasRoom (w .core .passed)
+Accepted m (writeIo d port value) w = (value < 256) × HasRoom (w .core .passed)
 Accepted m (readInternal addr) w = Unit {0}
 Accepted m (writeInternal addr value) w = Unit {0}
 Accepted m (write7ffd value) w = value < 256

@@ -12,7 +12,7 @@ use Rattle.laws.proofs.Conjunction.{each}
 use Rattle.machine.specs.declared.ZXMachine.{ZXMachine}
 use Rattle.machine.specs.Numbers.{specsOf}
 use Rattle.record.specs.declared.Bus.{Bus}
-use Rattle.record.specs.Record.{recordBytes, recordOf, flagByte, machineOf}
+use Rattle.record.specs.Record.{recordBytes, recordOf, flagByte, machineOf, withPaging, withPassed}
 use Rattle.record.specs.Sound.{Sound}
 use Rattle.record.proofs.Soundness.{facts-sound}
 use Rattle.record.proofs.Round.{held-encode}
@@ -25,10 +25,11 @@ use Rattle.bus.specs.Time.{worldAfter}
 use Rattle.bus.proofs.Kept.{SoundWorld, started-sound}
 use Rattle.answers.specs.declared.Verdict.the-variants.{Accepted}
 use Rattle.answers.specs.Judges.{romFits, judgeStill}
+use Rattle.answers.specs.Answers.{numberLength}
 use Rattle.answers.specs.Order.{NoneHolds, Numbered}
 use Rattle.answers.proofs.Order.{state-ordered, wait-ordered, port-ordered, told-ordered, read-ordered, write-ordered, load-ordered, still-ordered}
 use Rattle.contracts.specs.Timed.{Lent, lentBy, Outcome, lentWorld, judgeWaitOf, judgePortOf, start}
-use Rattle.contracts.specs.Plain.{Told, told, stillPage, stillPicture, withPassed, withPaging}
+use Rattle.contracts.specs.Plain.{Told, told, stillPage, stillPicture}
 use Rattle.contracts.specs.Helpers.{helperCall}
 use Rattle.contracts.specs.Calls.{TimedCall, plain, mreq, noMreq, portIn, portOut, Helper, lineAddr, lineOf, columnOf, attrRowOf, attrColumnOf, colorOf, Question, byteRead, pagingRead, interruptAsked, framesAsked, pageAsked, blockAsked, shownAsked, stillAsked, help, Call, startAgain, timedCall, writeByte, writePaging, resetPassed, loadRam, ask, Result, result, withRam, withState, waited, opsOf, helpedBy, replied, performed, timedCauses, questionCauses, causesOf, refusedFilled, Typed, lentOf, handedBack, Sized, Made, buffersAfter, Obeyed, AllTyped, NotStarted, NoSecondStart}
 use Rattle.contracts.proofs.Calls.{call-numbered, call-refused}
@@ -136,7 +137,7 @@ module _ (rom : List ℕ) (c : ZXController) (l : Lent) (s : SameLent rom c l) w
   unfolding stillPicture
   still-is flash picture e = rw e
 
-  helped-same : (h : Helper) (n : ℕ) (answer : List ℕ) → length answer ≡ 5 → SameHelp (rustHelper h n) (helperCall (helpedBy h n) answer)
+  helped-same : (h : Helper) (n : ℕ) (answer : List ℕ) → length answer ≡ numberLength → SameHelp (rustHelper h n) (helperCall (helpedBy h n) answer)
   helped-same lineAddr n answer e = line-addr-same n answer e
   helped-same lineOf n answer e = line-rel-same n answer e
   helped-same columnOf n answer e = col-rel-same n answer e
@@ -170,7 +171,7 @@ module _ (rom : List ℕ) (c : ZXController) (l : Lent) (s : SameLent rom c l) w
       record { next = x .given .controller; same = (x, ended _ (x .given) (x .ends)); leaves = told-call (blockData (c .memory) block) (x .given) (x .ends) })
   reply-same (stillAsked flash) picture its h =
       record { next = c; same = (still-is flash picture (still-ordered (l .state) (length (l .ram)) (length picture) flash .noneAccepts h), refl); leaves = s }
-  reply-same (help helper n) answer its h = record { next = c; same = (helped-same helper n answer (eqb-true (length answer) 5 (not-false _ (h .0))), refl); leaves = s }
+  reply-same (help helper n) answer its h = record { next = c; same = (helped-same helper n answer (eqb-true (length answer) numberLength (not-false _ (h .0))), refl); leaves = s }
 
   -- ---- ONE CALL, accepted, on the buffers that hold the Rust's machine.
   pub one-call : (k : Call) → NotStarted k 0 → Typed k → OwnRom rom k → NoneHolds (causesOf k l) → SameCall rom k c l (performed k l)

@@ -21,7 +21,7 @@ use Rattle.answers.specs.declared.Refusal.the-variants.{BadPage, BadNumber}
 use Rattle.answers.specs.declared.Verdict.{Verdict}
 use Rattle.answers.specs.declared.Verdict.the-variants.{Refused, Accepted}
 use Rattle.answers.specs.Refusals.{cause, judged}
-use Rattle.answers.specs.Judges.{ramFits, romFits, unless, judgeLoad, judgeRamPage, judgeRamPageTold, judgeBlock, judgeBlockTold, judgeShown}
+use Rattle.answers.specs.Judges.{ramFits, romFits, unless, judgeLoad, judgeRamPage, judgeBlock}
 use Rattle.contracts.specs.Timed.{Lent, lentWorld}
 use Rattle.contracts.specs.Plain.{codeOf, tell, change}
 use Rattle.rustzx.specs.Controller.{ZXController}
@@ -89,27 +89,14 @@ module _ (rom : List ℕ) (c : ZXController) (l : Lent) (s : SameLent rom c l) w
   unfolding judgeLoad
   load-judged bytes number e = rw (s .isHeld) (decided BadPage _ (pageExists m number) bus (and-both _ _ ram-fits (eq-eqb bytes 16384 e)))
 
-  pub ram-page-told-judged : (number answer : ℕ) → answer ≡ 5
-      → judgeRamPageTold (l .state) (length (l .ram)) number answer ≡ cond (pageExists m number) (Accepted bus) (Refused BadPage)
-  unfolding judgeRamPageTold
-  ram-page-told-judged number answer e = rw (s .isHeld) (decided BadPage _ (pageExists m number) bus (and-both _ _ ram-fits (eq-eqb answer 5 e)))
-
-  pub block-told-judged : (block answer : ℕ) → answer ≡ 5
-      → judgeBlockTold (l .state) (length rom) (length (l .ram)) block answer ≡ cond (leb block 3) (Accepted bus) (Refused BadNumber)
-  unfolding judgeBlockTold
-  block-told-judged block answer e =
-      rw (s .isHeld, beyond block (leb block 3) refl)
-      (decided BadNumber _ (leb block 3) bus (and-both _ _ (and-both _ _ rom-fits ram-fits) (eq-eqb answer 5 e)))
-
-  -- the same of a Rattle caller, who lends no answer
-  pub ram-page-judged : (number : ℕ) → pageExists m number ≡ true → judgeRamPage (l .state) (length (l .ram)) number ≡ Accepted bus
+  -- of the three that hand back a part, to C whose answer has its length, and to a Rattle caller, who lends none
+  pub ram-page-judged : (number : ℕ) (fits : Bool) → fits ≡ true
+      → judgeRamPage (l .state) (length (l .ram)) number fits ≡ cond (pageExists m number) (Accepted bus) (Refused BadPage)
   unfolding judgeRamPage
-  ram-page-judged number e = rw (s .isHeld, e) (decided BadPage _ true bus ram-fits)
+  ram-page-judged number fits e = rw (s .isHeld) (decided BadPage _ (pageExists m number) bus (and-both _ _ ram-fits e))
 
-  pub block-judged : (block : ℕ) → leb block 3 ≡ true → judgeBlock (l .state) (length rom) (length (l .ram)) block ≡ Accepted bus
+  pub block-judged : (block : ℕ) (fits : Bool) → fits ≡ true
+      → judgeBlock (l .state) (length rom) (length (l .ram)) block fits ≡ cond (leb block 3) (Accepted bus) (Refused BadNumber)
   unfolding judgeBlock
-  block-judged block e = rw (s .isHeld, beyond block true e) (decided BadNumber _ true bus (and-both _ _ rom-fits ram-fits))
-
-  pub shown-judged : length (l .a) ≡ 49152 → length (l .b) ≡ 49152 → judgeShown (l .state) (length (l .a)) (length (l .b)) ≡ Accepted bus
-  unfolding judgeShown judged
-  shown-judged p q = rw (s .isHeld, eq-eqb (length (l .a)) 49152 p, eq-eqb (length (l .b)) 49152 q)
+  block-judged block fits e =
+      rw (s .isHeld, beyond block (leb block 3) refl) (decided BadNumber _ (leb block 3) bus (and-both _ _ (and-both _ _ rom-fits ram-fits) e))

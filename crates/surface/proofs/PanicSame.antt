@@ -6,6 +6,7 @@ use mathlib.Core.Path.{_≡_, refl, ap, _∙_}
 use mathlib.Core.Bool.{Bool, true, false, cond}
 use mathlib.Core.List.{List}
 use lib.Dec.{leb}
+use borrow.Author.Tests.{eq-eqb}
 use lib.ListN.{length}
 use Rattle.machine.specs.declared.ZXMachine.{ZXMachine}
 use Rattle.machine.specs.Numbers.{specsOf}
@@ -17,7 +18,7 @@ use Rattle.answers.specs.declared.Refusal.the-variants.{BadPage, BadNumber}
 use Rattle.answers.specs.declared.Verdict.{Verdict}
 use Rattle.answers.specs.declared.Verdict.the-variants.{Refused, Accepted}
 use Rattle.answers.specs.Refusals.{refusalNumber}
-use Rattle.answers.specs.Judges.{judgeLoad, judgeRamPageTold, judgeBlockTold}
+use Rattle.answers.specs.Judges.{numberFits, judgeLoad, judgeRamPage, judgeBlock}
 use Rattle.contracts.specs.Timed.{Lent, lentWorld}
 use Rattle.contracts.specs.Plain as ulb
 use Rattle.rustzx.specs.Panics.{panics}
@@ -28,7 +29,7 @@ use Rattle.rustzx.specs.Calls.{Call, performed}
 use Rattle.rustzx.proofs.Pages.{bank-type-is, page-data-is, load-is}
 use Rattle.surface.specs.Same.{SameLent, SameRefusal}
 use Rattle.surface.proofs.OnMachine.{agrees}
-use Rattle.surface.proofs.Judged.{told-code, changed-code, sound, load-judged, ram-page-told-judged, block-told-judged}
+use Rattle.surface.proofs.Judged.{told-code, changed-code, sound, load-judged, ram-page-judged, block-judged}
 
 module _ (rom : List ℕ) (c : ZXController) (l : Lent) (s : SameLent rom c l) where
   abbrev bus : Bus
@@ -78,13 +79,13 @@ module _ (rom : List ℕ) (c : ZXController) (l : Lent) (s : SameLent rom c l) w
       → SameRefusal 7 (performed (rust.ramPageOf number) c) (ulb.ramPageTold (l .state) (l .ram) number answer .code)
   unfolding ulb.ramPageTold
   ram-page-refusal number answer e =
-      rw (told-code _ answer (judgeRamPageTold (l .state) (length (l .ram)) number (length answer)))
-      (by-number (rust.ramPageOf number) BadPage (pageExists m number) _ (ram-page-told-judged rom c l s number (length answer) e) (λ g. g) (page-panics number))
+      rw (told-code _ answer (judgeRamPage (l .state) (length (l .ram)) number (numberFits (length answer))))
+      (by-number (rust.ramPageOf number) BadPage (pageExists m number) _ (ram-page-judged rom c l s number (numberFits (length answer)) (eq-eqb (length answer) 5 e)) (λ g. g) (page-panics number))
 
   -- ULB_BLOCK returns 8 where the assert of get_bank_type panics.
   pub block-refusal : (block : ℕ) (answer : List ℕ) → length answer ≡ 5
       → SameRefusal 8 (performed (rust.blockOf block) c) (ulb.blockTold (l .state) rom (l .ram) block answer .code)
   unfolding ulb.blockTold
   block-refusal block answer e =
-      rw (told-code _ answer (judgeBlockTold (l .state) (length rom) (length (l .ram)) block (length answer)))
-      (by-number (rust.blockOf block) BadNumber (leb block 3) _ (block-told-judged rom c l s block (length answer) e) (λ g. g) (block-panics block))
+      rw (told-code _ answer (judgeBlock (l .state) (length rom) (length (l .ram)) block (numberFits (length answer))))
+      (by-number (rust.blockOf block) BadNumber (leb block 3) _ (block-judged rom c l s block (numberFits (length answer)) (eq-eqb (length answer) 5 e)) (λ g. g) (block-panics block))

@@ -6,15 +6,15 @@ use mathlib.Core.Path.{_≡_, ap, _∙_}
 use mathlib.Core.Bool.{cond}
 use mathlib.Core.List.{List, _++_}
 use lib.ListN.{length}
-use borrow.Author.Tests.{le-leb}
 use Rattle.machine.specs.declared.ZXMachine.{ZXMachine}
 use Rattle.record.specs.declared.Bus.{Bus}
 use Rattle.memory.specs.declared.Page.the-variants as page
 use Rattle.memory.specs.Paging.{pageAt}
 use Rattle.memory.specs.Memory.{partStart}
 use Rattle.bus.specs.Time.{showsA}
-use Rattle.answers.proofs.Order.{ram-page-told-ordered, block-told-ordered, shown-told-ordered}
-use Rattle.answers.proofs.Accepted.{ready-ram-page-told, ready-block-told, ready-shown-told}
+use Rattle.answers.specs.Judges.{numberFits}
+use Rattle.answers.proofs.Order.{ram-page-ordered, block-ordered, shown-ordered}
+use Rattle.answers.proofs.Accepted.{ready-ram-page, ready-block, ready-shown}
 use Rattle.contracts.specs.Timed.{Lent}
 use Rattle.contracts.specs.Plain as ulb
 use Rattle.contracts.proofs.Refusals.{ram-page-numbered, block-numbered, shown-picture-numbered}
@@ -22,7 +22,7 @@ use Rattle.contracts.proofs.Parts.{ram-page-found, block-found, shown-found}
 use Rattle.rustzx.specs.Controller.{ZXController}
 use Rattle.rustzx.specs.Calls as rust
 use Rattle.surface.specs.Same.{SameLent, SameFound}
-use Rattle.surface.proofs.Judged.{rom-long, settled, ram-page-judged, block-judged, shown-judged}
+use Rattle.surface.proofs.Judged.{rom-long, settled}
 use Rattle.surface.proofs.PlainSame.{ram-page-same, block-same, shown-same}
 
 module _ (rom : List ℕ) (c : ZXController) (l : Lent) (s : SameLent rom c l) where
@@ -40,10 +40,10 @@ module _ (rom : List ℕ) (c : ZXController) (l : Lent) (s : SameLent rom c l) w
       → SameFound (rust.ramPageOf number) c (ulb.ramPageTold (l .state) (l .ram) number answer) 16384 (rom ++ l .ram)
   unfolding ulb.ramPageTold
   ram-page-told-same number answer z =
-      let v = ram-page-told-ordered (l .state) (length (l .ram)) number (length answer) .noneAccepts (ram-page-numbered (l .state) (l .ram) number answer .zeroByNone z) in
-      let h = ready-ram-page-told (l .state) bus (length (l .ram)) number (length answer) v in
+      let v = ram-page-ordered (l .state) (length (l .ram)) number (numberFits (length answer)) .noneAccepts (ram-page-numbered (l .state) (l .ram) number answer .zeroByNone z) in
+      let h = ready-ram-page (l .state) bus (length (l .ram)) number (numberFits (length answer)) v in
       let f = ram-page-found (l .state) (l .ram) answer number z rom (rom-long rom c l s) in
-      let g = ram-page-same bus (l .ram) (l .a) (l .b) (l .border) rom c (here .machine) (here .related) (l .state) number (ram-page-judged rom c l here number (h .part .exists)) in
+      let g = ram-page-same bus (l .ram) (l .a) (l .b) (l .border) rom c (here .machine) (here .related) (l .state) number (rw (h .answerFits) at v) in
       record {
         given = g .given;
         number = partStart m (page.Ram number);
@@ -59,10 +59,10 @@ module _ (rom : List ℕ) (c : ZXController) (l : Lent) (s : SameLent rom c l) w
       → SameFound (rust.blockOf block) c (ulb.blockTold (l .state) rom (l .ram) block answer) 16384 (rom ++ l .ram)
   unfolding ulb.blockTold
   block-told-same block answer z =
-      let v = block-told-ordered (l .state) (length rom) (length (l .ram)) block (length answer) .noneAccepts (block-numbered (l .state) rom (l .ram) block answer .zeroByNone z) in
-      let h = ready-block-told (l .state) bus (length rom) (length (l .ram)) block (length answer) v in
+      let v = block-ordered (l .state) (length rom) (length (l .ram)) block (numberFits (length answer)) .noneAccepts (block-numbered (l .state) rom (l .ram) block answer .zeroByNone z) in
+      let h = ready-block (l .state) bus (length rom) (length (l .ram)) block (numberFits (length answer)) v in
       let f = block-found (l .state) rom (l .ram) answer block z in
-      let g = block-same bus (l .ram) (l .a) (l .b) (l .border) rom c (here .machine) (here .related) (l .state) block (block-judged rom c l here block (le-leb block 3 (h .part .blockIn))) in
+      let g = block-same bus (l .ram) (l .a) (l .b) (l .border) rom c (here .machine) (here .related) (l .state) block (rw (h .answerFits) at v) in
       record {
         given = g .given;
         number = partStart m (pageAt m (bus .paging) block);
@@ -78,10 +78,10 @@ module _ (rom : List ℕ) (c : ZXController) (l : Lent) (s : SameLent rom c l) w
       → SameFound rust.screenBuffer c (ulb.shownTold (l .state) (l .a) (l .b) answer) 49152 (l .a ++ l .b)
   unfolding ulb.shownTold
   shown-told-same answer z =
-      let v = shown-told-ordered (l .state) (length (l .a)) (length (l .b)) (length answer) .noneAccepts (shown-picture-numbered (l .state) (l .a) (l .b) answer .zeroByNone z) in
-      let h = ready-shown-told (l .state) bus (length (l .a)) (length (l .b)) (length answer) v in
+      let v = shown-ordered (l .state) (length (l .a)) (length (l .b)) (numberFits (length answer)) .noneAccepts (shown-picture-numbered (l .state) (l .a) (l .b) answer .zeroByNone z) in
+      let h = ready-shown (l .state) bus (length (l .a)) (length (l .b)) (numberFits (length answer)) v in
       let f = shown-found (l .state) (l .a) (l .b) answer z in
-      let g = shown-same bus (l .ram) (l .a) (l .b) (l .border) rom c (here .machine) (here .related) (l .state) (shown-judged rom c l here (h .part .aIs) (h .part .bIs)) in
+      let g = shown-same bus (l .ram) (l .a) (l .b) (l .border) rom c (here .machine) (here .related) (l .state) (rw (h .answerFits) at v) in
       record {
         given = g .given;
         number = cond (showsA (bus .phase)) 0 49152;

@@ -4,12 +4,13 @@ use Prim.Native.Nat.{ℕ, _<_}
 use mathlib.Core.Path.{_≡_, refl, sym, _∙_, subst}
 use mathlib.Core.List.{List, [], _∷_}
 use lib.ListN.{length}
+use mathlib.Core.Bool.{true}
 use borrow.Author.Tests.{le-leb}
 use Rattle.machine.specs.declared.ZXMachine.{ZXMachine}
 use Rattle.machine.specs.Timing.{interrupt}
 use Rattle.record.specs.declared.Bus.{Bus}
 use Rattle.record.specs.Sound.{Sound}
-use Rattle.record.specs.Record.{recordBytes, flagByte}
+use Rattle.record.specs.Record.{recordBytes, flagByte, withPaging, withPassed}
 use Rattle.memory.specs.declared.Place.{Place}
 use Rattle.memory.specs.declared.Place.the-variants.{Rom, Ram}
 use Rattle.memory.specs.declared.Paged.{Paged}
@@ -27,7 +28,7 @@ use Rattle.answers.specs.declared.Verdict.the-variants.{Accepted}
 use Rattle.answers.specs.Judges.{judgeState, judgeTold, judgeRead, judgeWrite, judgeLoad, judgeRamPage, judgeBlock, judgeShown}
 use Rattle.answers.proofs.Accepted.{ready-state, ready-told, ready-read, ready-write, ready-load, ready-ram-page, ready-block, ready-shown}
 use Rattle.contracts.specs.Plain as ulb
-use Rattle.contracts.specs.Plain.{tell, withPaging, withPassed}
+use Rattle.contracts.specs.Plain.{tell}
 use Rattle.rustzx.specs.Controller.{ZXController}
 use Rattle.rustzx.specs.Related.{ourMachine, Related}
 use Rattle.bus.specs.Pokes.{poking, byteWrite, pageLoad, passedReset}
@@ -84,23 +85,23 @@ module _ (bus : Bus) (ram a b border rom : List ℕ) (c : ZXController) (its : o
 
   -- The RAM page by number is ram_page_data; the 16 KiB at a block is the data of the page that get_bank_type names; the shown picture is the
   -- screen's frame_buffer.
-  pub ram-page-same : (state : List ℕ) (number : ℕ) → judgeRamPage state (length ram) number ≡ Accepted bus
+  pub ram-page-same : (state : List ℕ) (number : ℕ) → judgeRamPage state (length ram) number true ≡ Accepted bus
       → SamePart (rust.ramPageOf number) c (ulb.ramPagePart state ram number)
   unfolding ulb.ramPagePart answerOf
   ram-page-same state number e =
-      let h = ready-ram-page state bus (length ram) number e in
+      let h = ready-ram-page state bus (length ram) number true e in
       rw e (same-part (rust.ramPageOf number) _ (h .onRecord .sound) (h .exists) refl)
 
-  pub block-same : (state : List ℕ) (block : ℕ) → judgeBlock state (length rom) (length ram) block ≡ Accepted bus
+  pub block-same : (state : List ℕ) (block : ℕ) → judgeBlock state (length rom) (length ram) block true ≡ Accepted bus
       → SamePart (rust.blockOf block) c (ulb.blockPart state rom ram block)
   unfolding ulb.blockPart answerOf
   block-same state block e =
-      let h = ready-block state bus (length rom) (length ram) block e in
+      let h = ready-block state bus (length rom) (length ram) block true e in
       rw e (same-part (rust.blockOf block) _ (h .onRecord .sound) (le-leb block 3 (h .blockIn)) refl)
 
-  pub shown-same : (state : List ℕ) → judgeShown state (length a) (length b) ≡ Accepted bus → SamePart rust.screenBuffer c (ulb.shownPart state a b)
+  pub shown-same : (state : List ℕ) → judgeShown state (length a) (length b) true ≡ Accepted bus → SamePart rust.screenBuffer c (ulb.shownPart state a b)
   unfolding ulb.shownPart answerOf
-  shown-same state e = rw e (same-part rust.screenBuffer _ (ready-shown state bus (length a) (length b) e .onRecord .sound) tt refl)
+  shown-same state e = rw e (same-part rust.screenBuffer _ (ready-shown state bus (length a) (length b) true e .onRecord .sound) tt refl)
 
   -- ---- moves
   same-move : (k : Call) (w′ : World) → Sound bus → rust.Accepted m k w → after m k w ≡ w′ → SameMove rom k c w′

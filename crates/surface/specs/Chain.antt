@@ -6,6 +6,7 @@ use mathlib.Core.Path.{_≡_}
 use mathlib.Core.List.{List, [], _∷_, _++_}
 use lib.Dec.{eqb}
 use lib.ListN.{length}
+use Rattle.machine.specs.Limits.{pictureLength, pageLength}
 use Rattle.paint.specs.Paint.{blocks}
 use Rattle.memory.specs.Memory.{ramPage}
 use Rattle.ports.specs.Devices.{devicesOf}
@@ -59,9 +60,9 @@ SameReply rom (byteRead lent addr) c next l t = SameTold (rust.readInternal addr
 SameReply rom pagingRead c next l t = SameTold rust.read7ffd c t × Ends rust.read7ffd c next
 SameReply rom interruptAsked c next l t = SameTold rust.intActive c t × Ends rust.intActive c next
 SameReply rom framesAsked c next l t = SameTold rust.framesCount c t × Ends rust.framesCount c next
-SameReply rom (pageAsked page) c next l t = SameFound (rust.ramPageOf page) c t 16384 (rom ++ l .ram) × Ends (rust.ramPageOf page) c next
-SameReply rom (blockAsked lent block) c next l t = SameFound (rust.blockOf block) c t 16384 (rom ++ l .ram) × Ends (rust.blockOf block) c next
-SameReply rom shownAsked c next l t = SameFound rust.screenBuffer c t 49152 (l .a ++ l .b) × Ends rust.screenBuffer c next
+SameReply rom (pageAsked page) c next l t = SameFound (rust.ramPageOf page) c t pageLength (rom ++ l .ram) × Ends (rust.ramPageOf page) c next
+SameReply rom (blockAsked lent block) c next l t = SameFound (rust.blockOf block) c t pageLength (rom ++ l .ram) × Ends (rust.blockOf block) c next
+SameReply rom shownAsked c next l t = SameFound rust.screenBuffer c t pictureLength (l .a ++ l .b) × Ends rust.screenBuffer c next
 SameReply rom (stillAsked flash) c next l t =
     (t .answer ≡ blocks (ramPage (stillPage (recordOf (l .state) .machine)) (l .ram)) (eqb flash 1) 0 6144) × (next ≡ c)
 SameReply rom (help h n) c next l t = SameHelp (rustHelper h n) t × (next ≡ c)

@@ -10,7 +10,7 @@ use Rattle.machine.specs.declared.ZXMachine.the-variants.{Sinclair48K, Sinclair
 use Rattle.machine.specs.Numbers.{specsOf}
 use Rattle.machine.specs.Timing.{interrupt}
 use Rattle.record.specs.declared.Bus.{Bus}
-use Rattle.record.specs.Record.{recordBytes}
+use Rattle.record.specs.Record.{recordBytes, HasRoom}
 use Rattle.record.specs.Sound.{Sound}
 use Rattle.steps.specs.declared.Turning.{Turning}
 use Rattle.bus.specs.World.{Core, worldOf}
@@ -26,14 +26,14 @@ use Rattle.answers.specs.Ready.{Fit, ReadyWait, ReadyPort}
 use Rattle.contracts.specs.Timed.{Lent, lent, lentWorld, outcome, timedEnd, timed}
 
 -- clocks since the start have room for one call more, if passed frames are below their last number
-time-fits : (m : ZXMachine) (passed clock clocks : ℕ) → passed < 4294967295 → clock < specsOf m .frame → clocks ≤ 65541
+time-fits : (m : ZXMachine) (passed clock clocks : ℕ) → HasRoom passed → clock < specsOf m .frame → clocks ≤ 65541
     → passed * specsOf m .frame + clock + clocks < 2 ^ 32 * specsOf m .frame
 time-fits Sinclair48K passed clock clocks p c n = omega arith
 time-fits Sinclair128K passed clock clocks p c n = omega arith
 
 -- the call that has begun on a sound record: at most ten steps, of at most 65,541 clocks in all
 module _ (bus : Bus) (begun : Turning) (ram a b border : List ℕ) (starts : turnOf begun ram a b border ≡ fresh (bus .machine) (worldOf bus ram a b border)) where
-  pub ready-fresh : (answer steps clocks : ℕ) → Fit bus (length ram) (length a) (length b) (length border) answer → Sound bus → bus .passed < 4294967295
+  pub ready-fresh : (answer steps clocks : ℕ) → Fit bus (length ram) (length a) (length b) (length border) answer → Sound bus → HasRoom (bus .passed)
       → steps ≤ 10 → clocks ≤ 65541 → Ready (turnOf begun ram a b border) steps clocks
   ready-fresh answer steps clocks f s room k n =
       let long = frame-long (bus .machine) in

@@ -6,12 +6,12 @@ ghost use mathlib.Core.Bool.{false};
 ghost use lib.ListN.{length};
 ghost use Rattle.machine.specs.Timing.{interrupt};
 ghost use Rattle.record.specs.Record.{recordBytes, recordLength, advanced};
-ghost use Rattle.answers.specs.Answers.{timedAnswer};
+ghost use Rattle.answers.specs.Answers.{timedAnswer, timedLength};
 use steps::Turning;
 
 // The answer of a turn.
 fn tell(t: Turning, value: u8, answer: &mut [u8])
-    requires { ⌜ length (now answer) ≡ 10 ⌝ }
+    requires { ⌜ length (now answer) ≡ timedLength ⌝ }
     ensures { λ _. ⌜ now (answer .exit) ≡ timedAnswer value (t .closed) (interrupt (t .bus .clock)) (t .clocks) (t .blocks) ⌝ }
 {
     let bus = t.bus;
@@ -21,7 +21,7 @@ fn tell(t: Turning, value: u8, answer: &mut [u8])
 
 // The end of a call that may have changed any field.
 pub fn finish(t: Turning, value: u8, state: &mut [u8], answer: &mut [u8]) -> u8
-    requires { ⌜ (length (now state) ≡ recordLength) × (length (now answer) ≡ 10) ⌝ }
+    requires { ⌜ (length (now state) ≡ recordLength) × (length (now answer) ≡ timedLength) ⌝ }
     ensures { λ r. ⌜ (r ≡ 0) × (now (state .exit) ≡ recordBytes (t .bus))
         × (now (answer .exit) ≡ timedAnswer value (t .closed) (interrupt (t .bus .clock)) (t .clocks) (t .blocks)) ⌝ }
 {
@@ -33,7 +33,7 @@ pub fn finish(t: Turning, value: u8, state: &mut [u8], answer: &mut [u8]) -> u8
 
 // The end of a call that was one step: within the frame only clock and painted blocks have moved.
 pub fn finish_step(t: Turning, value: u8, state: &mut [u8], answer: &mut [u8]) -> u8
-    requires { ⌜ (length (now state) ≡ recordLength) × (length (now answer) ≡ 10)
+    requires { ⌜ (length (now state) ≡ recordLength) × (length (now answer) ≡ timedLength)
         × (t .closed ≡ false → advanced (now state) (t .bus .clock) (t .bus .painted) ≡ recordBytes (t .bus)) ⌝ }
     ensures { λ r. ⌜ (r ≡ 0) × (now (state .exit) ≡ recordBytes (t .bus))
         × (now (answer .exit) ≡ timedAnswer value (t .closed) (interrupt (t .bus .clock)) (t .clocks) (t .blocks)) ⌝ }

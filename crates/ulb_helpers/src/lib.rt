@@ -13,13 +13,17 @@ use screen::ZXColor;
 fn help(h: Helped, answer: &mut [u8]) -> u8
     ensures { λ r. ⌜ told r (now (answer .exit)) ≡ helperCall h (now (answer .entry)) ⌝ }
 {
-    if answer.len() == 5 {
+    if answer.len() == answers::NUMBER_LENGTH {
         match h {
             Helped::Number(n) => {
                 answers::fill_number(answer, n);
                 0
             }
-            Helped::OutOfRange => answers::refuse(answer, 5, Refusal::BadNumber),
+            Helped::OutOfRange => answers::refuse(
+                answer,
+                answers::NUMBER_LENGTH,
+                Refusal::BadNumber,
+            ),
         }
     } else {
         answers::number(Refusal::BadLength)

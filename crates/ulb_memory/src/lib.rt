@@ -19,7 +19,7 @@ pub extern "C" fn ulb_read_internal(
 {
     let v = answers::judge_read(state, rom.len(), ram.len(), answer.len());
     match v {
-        Verdict::Refused(e) => answers::refuse(answer, 5, e),
+        Verdict::Refused(e) => answers::refuse(answer, answers::NUMBER_LENGTH, e),
         Verdict::Accepted(bus) => {
             let m = bus.machine;
             let value = memory::read(m, bus.paging, rom, ram, addr);
@@ -48,9 +48,10 @@ pub extern "C" fn ulb_load_page(state: &[u8], ram: &mut [u8], src: &[u8], page: 
 pub extern "C" fn ulb_ram_page(state: &[u8], ram: &[u8], page: u32, answer: &mut [u8]) -> u8
     ensures { λ r. ⌜ told r (now (answer .exit)) ≡ ramPageTold (now (state .entry)) (now (ram .entry)) page (now (answer .entry)) ⌝ }
 {
-    let v = answers::judge_ram_page_told(state, ram.len(), page, answer.len());
+    let fits = answer.len() == answers::NUMBER_LENGTH;
+    let v = answers::judge_ram_page(state, ram.len(), page, fits);
     match v {
-        Verdict::Refused(e) => answers::refuse(answer, 5, e),
+        Verdict::Refused(e) => answers::refuse(answer, answers::NUMBER_LENGTH, e),
         Verdict::Accepted(bus) => {
             let m = bus.machine;
             let number = page as u8;
@@ -71,9 +72,10 @@ pub extern "C" fn ulb_block(
 ) -> u8
     ensures { λ r. ⌜ told r (now (answer .exit)) ≡ blockTold (now (state .entry)) (now (rom .entry)) (now (ram .entry)) block (now (answer .entry)) ⌝ }
 {
-    let v = answers::judge_block_told(state, rom.len(), ram.len(), block, answer.len());
+    let fits = answer.len() == answers::NUMBER_LENGTH;
+    let v = answers::judge_block(state, rom.len(), ram.len(), block, fits);
     match v {
-        Verdict::Refused(e) => answers::refuse(answer, 5, e),
+        Verdict::Refused(e) => answers::refuse(answer, answers::NUMBER_LENGTH, e),
         Verdict::Accepted(bus) => {
             let m = bus.machine;
             let page = memory::get_bank_type(m, bus.paging, block);
@@ -88,7 +90,7 @@ pub extern "C" fn ulb_block(
 pub fn ram_page<'a>(state: &[u8], ram: &'a [u8], page: u32) -> &'a [u8]
     ensures { λ r. ⌜ now r ≡ ramPagePart (now (state .entry)) (now (ram .entry)) page ⌝ }
 {
-    let v = answers::judge_ram_page(state, ram.len(), page);
+    let v = answers::judge_ram_page(state, ram.len(), page, true);
     match v {
         Verdict::Refused(_) => &ram[..0],
         Verdict::Accepted(_) => memory::ram_page_data(ram, page),
@@ -99,7 +101,7 @@ pub fn ram_page<'a>(state: &[u8], ram: &'a [u8], page: u32) -> &'a [u8]
 pub fn block<'a>(state: &[u8], rom: &'a [u8], ram: &'a [u8], block: u32) -> &'a [u8]
     ensures { λ r. ⌜ now r ≡ blockPart (now (state .entry)) (now (rom .entry)) (now (ram .entry)) block ⌝ }
 {
-    let v = answers::judge_block(state, rom.len(), ram.len(), block);
+    let v = answers::judge_block(state, rom.len(), ram.len(), block, true);
     match v {
         Verdict::Refused(_) => &rom[..0],
         Verdict::Accepted(bus) => {

@@ -5,6 +5,7 @@ ghost use mathlib.Core.Path.{_≡_};
 ghost use mathlib.Core.Bool.{cond};
 ghost use Rattle.bus.specs.Time.{showsA};
 ghost use Rattle.contracts.specs.Plain.{told, changed, stillPage, shownTold, stillPicture, shownPart};
+ghost use Rattle.machine.specs.Limits.{pictureLength};
 use answers::Verdict;
 use machine::ZXMachine;
 
@@ -12,9 +13,10 @@ use machine::ZXMachine;
 pub extern "C" fn ulb_shown_picture(state: &[u8], a: &[u8], b: &[u8], answer: &mut [u8]) -> u8
     ensures { λ r. ⌜ told r (now (answer .exit)) ≡ shownTold (now (state .entry)) (now (a .entry)) (now (b .entry)) (now (answer .entry)) ⌝ }
 {
-    let v = answers::judge_shown_told(state, a.len(), b.len(), answer.len());
+    let fits = answer.len() == answers::NUMBER_LENGTH;
+    let v = answers::judge_shown(state, a.len(), b.len(), fits);
     match v {
-        Verdict::Refused(e) => answers::refuse(answer, 5, e),
+        Verdict::Refused(e) => answers::refuse(answer, answers::NUMBER_LENGTH, e),
         Verdict::Accepted(bus) => {
             let start = shown_start(bus.phase);
             answers::fill_number(answer, start);
@@ -25,16 +27,20 @@ pub extern "C" fn ulb_shown_picture(state: &[u8], a: &[u8], b: &[u8], answer: &m
 
 // A is shown in even phases, and B, which is counted after A, in odd ones.
 fn shown_start(phase: u8) -> u32
-    ensures { λ r. ⌜ r ≡ cond (showsA phase) 0 49152 ⌝ }
+    ensures { λ r. ⌜ r ≡ cond (showsA phase) 0 pictureLength ⌝ }
 {
-    if phase % 2 == 0 { 0 } else { 49152 }
+    if phase % 2 == 0 {
+        0
+    } else {
+        machine::PICTURE_LENGTH as u32
+    }
 }
 
 // The shown picture, of the two lent ones.
 pub fn shown_picture<'a>(state: &[u8], a: &'a [u8], b: &'a [u8]) -> &'a [u8]
     ensures { λ r. ⌜ now r ≡ shownPart (now (state .entry)) (now (a .entry)) (now (b .entry)) ⌝ }
 {
-    let v = answers::judge_shown(state, a.len(), b.len());
+    let v = answers::judge_shown(state, a.len(), b.len(), true);
     match v {
         Verdict::Refused(_) => &a[..0],
         Verdict::Accepted(bus) => { if bus.phase % 2 == 0 { a } else { b } }

@@ -32,7 +32,7 @@ pub extern "C" fn ulb_read_io(
         answer.len(),
     );
     match v {
-        Verdict::Refused(e) => answers::refuse(answer, 10, e),
+        Verdict::Refused(e) => answers::refuse(answer, answers::TIMED_LENGTH, e),
         Verdict::Accepted(held) => {
             let begun = steps::begun(held);
             let devices = ports::devices_from(devices);

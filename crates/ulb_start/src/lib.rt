@@ -10,7 +10,11 @@ fn start_fits(m: ZXMachine, state: usize, ram: usize, a: usize, b: usize, border
     ensures { λ r. ⌜ r ≡ startFits m state ram a b border ⌝ }
 {
     let specs = m.specs();
-    (state == 23) & (ram == specs.ram) & (a == 49152) & (b == 49152) & (border == 76800)
+    (state == record::LENGTH)
+        & (ram == specs.ram)
+        & (a == machine::PICTURE_LENGTH)
+        & (b == machine::PICTURE_LENGTH)
+        & (border == machine::BORDER_LENGTH)
 }
 
 // The record is only written, whatever it holds; ROM is not lent, so that it cannot be touched.

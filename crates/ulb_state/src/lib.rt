@@ -2,27 +2,9 @@
 // What it promises: each call accepts all bytes and numbers; what it returns, and every slice that it was lent at exit, is its definition of the slices at entry and the numbers.
 // Where its definitions stand: crate contracts, specs/Plain.antt.
 ghost use mathlib.Core.Path.{_≡_};
-ghost use Rattle.contracts.specs.Plain.{told, changed, repaged, withPaging, withPassed, write7ffdCall, read7ffd, intActive, framesCount, resetFrames};
+ghost use Rattle.contracts.specs.Plain.{told, changed, repaged, write7ffdCall, read7ffd, intActive, framesCount, resetFrames};
 use answers::Verdict;
 use record::Bus;
-
-fn with_paging(bus: Bus, paging: u8) -> Bus
-    ensures { λ r. ⌜ r ≡ withPaging paging bus ⌝ }
-{
-    let machine = bus.machine;
-    Bus {
-        machine,
-        clock: bus.clock,
-        passed: bus.passed,
-        phase: bus.phase,
-        painted: bus.painted,
-        paging,
-        reported: bus.reported,
-        colour: bus.colour,
-        blocked: bus.blocked,
-        pairs: bus.pairs,
-    }
-}
 
 // The 7FFD write: it takes no time, and nothing is caught up.
 #[no_mangle]
@@ -31,13 +13,13 @@ pub extern "C" fn ulb_write_7ffd(state: &mut [u8], value: u8, answer: &mut [u8])
 {
     let v = answers::judge_told(state, answer.len());
     match v {
-        Verdict::Refused(e) => answers::refuse(answer, 5, e),
+        Verdict::Refused(e) => answers::refuse(answer, answers::NUMBER_LENGTH, e),
         Verdict::Accepted(bus) => {
             let m = bus.machine;
             let paged = memory::write_7ffd(m, bus.paging, value);
             let code = memory::paged_code(paged);
             let paging = memory::paging_after(paged, bus.paging);
-            record::encode(state, with_paging(bus, paging));
+            record::encode(state, Bus { paging, ..bus });
             answers::fill_number(answer, code as u32);
             0
         }
@@ -51,7 +33,7 @@ pub extern "C" fn ulb_read_7ffd(state: &[u8], answer: &mut [u8]) -> u8
 {
     let v = answers::judge_told(state, answer.len());
     match v {
-        Verdict::Refused(e) => answers::refuse(answer, 5, e),
+        Verdict::Refused(e) => answers::refuse(answer, answers::NUMBER_LENGTH, e),
         Verdict::Accepted(bus) => {
             answers::fill_number(answer, bus.paging as u32);
             0
@@ -65,7 +47,7 @@ pub extern "C" fn ulb_int_active(state: &[u8], answer: &mut [u8]) -> u8
 {
     let v = answers::judge_told(state, answer.len());
     match v {
-        Verdict::Refused(e) => answers::refuse(answer, 5, e),
+        Verdict::Refused(e) => answers::refuse(answer, answers::NUMBER_LENGTH, e),
         Verdict::Accepted(bus) => {
             let on = answers::flag(machine::int_active(bus.clock));
             answers::fill_number(answer, on as u32);
@@ -81,29 +63,11 @@ pub extern "C" fn ulb_frames_count(state: &[u8], answer: &mut [u8]) -> u8
 {
     let v = answers::judge_told(state, answer.len());
     match v {
-        Verdict::Refused(e) => answers::refuse(answer, 5, e),
+        Verdict::Refused(e) => answers::refuse(answer, answers::NUMBER_LENGTH, e),
         Verdict::Accepted(bus) => {
             answers::fill_number(answer, bus.passed);
             0
         }
-    }
-}
-
-fn with_passed(bus: Bus, passed: u32) -> Bus
-    ensures { λ r. ⌜ r ≡ withPassed passed bus ⌝ }
-{
-    let machine = bus.machine;
-    Bus {
-        machine,
-        clock: bus.clock,
-        passed,
-        phase: bus.phase,
-        painted: bus.painted,
-        paging: bus.paging,
-        reported: bus.reported,
-        colour: bus.colour,
-        blocked: bus.blocked,
-        pairs: bus.pairs,
     }
 }
 
@@ -116,7 +80,7 @@ pub extern "C" fn ulb_reset_frame_counter(state: &mut [u8]) -> u8
     match v {
         Verdict::Refused(e) => answers::number(e),
         Verdict::Accepted(bus) => {
-            record::encode(state, with_passed(bus, 0));
+            record::encode(state, Bus { passed: 0, ..bus });
             0
         }
     }

@@ -31,7 +31,7 @@ pub extern "C" fn ulb_wait_internal(
         answer.len(),
     );
     match v {
-        Verdict::Refused(e) => answers::refuse(answer, 10, e),
+        Verdict::Refused(e) => answers::refuse(answer, answers::TIMED_LENGTH, e),
         Verdict::Accepted(held) => {
             let begun = steps::begun(held);
             let turn = steps::wait_internal(begun, clocks, ram, a, b, border);

@@ -33,7 +33,7 @@ pub extern "C" fn ulb_write_io(
         answer.len(),
     );
     match v {
-        Verdict::Refused(cause) => answers::refuse(answer, 10, cause),
+        Verdict::Refused(cause) => answers::refuse(answer, answers::TIMED_LENGTH, cause),
         Verdict::Accepted(held) => {
             let begun = steps::begun(held);
             let devices = ports::devices_from(devices);

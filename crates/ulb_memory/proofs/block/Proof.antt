@@ -25,7 +25,7 @@ get-bank-type-requires c κs = search needs
 
 page-data-requires : tie.Need-page-data-requires
 page-data-requires c κs =
-    let r = ready-block _ _ _ _ _ (sym (c .before .before .before .before .judge-block .ensures) ∙ c .before .before .v .given .1) in
+    let r = ready-block _ _ _ _ _ _ (sym (c .before .before .before .before .judge-block .ensures) ∙ c .before .before .v .given .1) in
     block-holds _ r (c .get-bank-type .ensures)
 
 returns : tie.Need-returns

@@ -21,7 +21,7 @@ enum-told-2 : tie.Need-enum-told-2
 enum-told-2 c = search needs
 
 ram-page-data-requires : tie.Need-ram-page-data-requires
-ram-page-data-requires c κs = page-fits (ready-ram-page _ _ _ _ (sym (c .before .before .judge-ram-page .ensures) ∙ c .enum-told2 .given .1))
+ram-page-data-requires c κs = page-fits (ready-ram-page _ _ _ _ _ (sym (c .before .before .judge-ram-page .ensures) ∙ c .enum-told2 .given .1))
 
 returns : tie.Need-returns
 unfolding ramPagePart

@@ -20,11 +20,8 @@ number-requires c κs = search needs
 enum-known-v-2 : tie.Need-enum-known-v-2
 enum-known-v-2 c = search needs
 
-with-passed-requires : tie.Need-with-passed-requires
-with-passed-requires c κs = search needs
-
 encode-requires : tie.Need-encode-requires
-encode-requires c κs = ready-state _ _ (sym (c .before .before .before .before .before .judge-state .ensures) ∙ c .before .before .before .v2 .given .1) .long
+encode-requires c κs = ready-state _ _ (sym (c .before .before .before .before .judge-state .ensures) ∙ c .before .before .v2 .given .1) .long
 
 same-length : tie.Need-same-length
 same-length c = search needs
@@ -40,8 +37,8 @@ same-length-2 c = search needs
 returns-2 : tie.Need-returns-2
 unfolding resetFrames
 returns-2 c =
-    changed-accepted _ _ (c .before .before .before .before .before .before .before .before .judge-state .ensures) _ _ _ _ (c .before .before .before .before .before .before .v2 .given .1)
-    (rw (c .before .before .encode .ensures, c .before .before .before .with-passed .ensures))
+    changed-accepted _ _ (c .before .before .before .before .before .before .before .judge-state .ensures) _ _ _ _ (c .before .before .before .before .before .v2 .given .1)
+    (c .before .before .encode .ensures)
 
 pub ulb-reset-frame-counter-spec : {M : Type 1} → statement M
 ulb-reset-frame-counter-spec =
@@ -51,7 +48,6 @@ ulb-reset-frame-counter-spec =
     enum-known-v
     number-requires
     enum-known-v-2
-    with-passed-requires
     encode-requires
     same-length
     returns

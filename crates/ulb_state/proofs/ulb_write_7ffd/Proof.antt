@@ -1,6 +1,6 @@
 -- Refused: the record is not written. Accepted: the record is written with the byte that is then held, and the answer with the write's code.
 -- Assumes nothing.
-use mathlib.Core.Path.{sym, _∙_}
+use mathlib.Core.Path.{refl, sym, _∙_}
 use Rattle.answers.proofs.Accepted.{ready-told}
 use Rattle.contracts.specs.Plain.{write7ffdCall}
 use Rattle.contracts.proofs.Leaves.{repaged-refused, repaged-accepted}
@@ -29,17 +29,14 @@ paged-code-requires c κs = search needs
 paging-after-requires : tie.Need-paging-after-requires
 paging-after-requires c κs = search needs
 
-with-paging-requires : tie.Need-with-paging-requires
-with-paging-requires c κs = search needs
-
 encode-requires : tie.Need-encode-requires
-encode-requires c κs = ready-told _ _ _ (sym (c .before .before .before .before .before .before .before .before .judge-told .ensures) ∙ c .before .before .before .before .before .before .v2 .given .1) .onRecord .long
+encode-requires c κs = ready-told _ _ _ (sym (c .before .before .before .before .before .before .before .judge-told .ensures) ∙ c .before .before .before .before .before .v2 .given .1) .onRecord .long
 
 cast-fill-number : tie.Need-cast-fill-number
 cast-fill-number c = search needs
 
 fill-number-requires : tie.Need-fill-number-requires
-fill-number-requires c κs = ready-told _ _ _ (sym (c .before .before .before .before .before .before .before .before .before .before .before .before .judge-told .ensures) ∙ c .before .before .before .before .before .before .before .before .before .before .v2 .given .1) .answerIs
+fill-number-requires c κs = ready-told _ _ _ (sym (c .before .before .before .before .before .before .before .before .before .before .before .judge-told .ensures) ∙ c .before .before .before .before .before .before .before .before .before .v2 .given .1) .answerIs
 
 same-length : tie.Need-same-length
 same-length c = search needs
@@ -61,9 +58,9 @@ same-length-4 c = search needs
 returns-2 : tie.Need-returns-2
 unfolding write7ffdCall
 returns-2 c =
-    repaged-accepted _ _ (c .before .before .before .before .before .before .before .before .before .before .before .before .before .before .before .judge-told .ensures) _ _ _ _ _ _ _ _ _ _ (c .before .before .before .before .before .before .before .before .before .before .before .before .before .v2 .given .1)
-    (c .before .before .before .before .before .before .before .before .before .before .before .write-7ffd .ensures) (c .before .before .before .before .before .before .before .before .before .before .paged-code .ensures) (c .before .before .before .before .before .before .before .before .before .paging-after .ensures)
-    (c .before .before .before .before .before .before .before .with-paging .ensures) (c .before .before .before .before .before .before .encode .ensures) (c .before .before .fill-number .ensures)
+    repaged-accepted _ _ (c .before .before .before .before .before .before .before .before .before .before .before .before .before .before .judge-told .ensures) _ _ _ _ _ _ _ _ _ _ (c .before .before .before .before .before .before .before .before .before .before .before .before .v2 .given .1)
+    (c .before .before .before .before .before .before .before .before .before .before .write-7ffd .ensures) (c .before .before .before .before .before .before .before .before .before .paged-code .ensures) (c .before .before .before .before .before .before .before .before .paging-after .ensures)
+    refl (c .before .before .before .before .before .before .encode .ensures) (c .before .before .fill-number .ensures)
 
 pub ulb-write-7ffd-spec : {M : Type 1} → statement M
 ulb-write-7ffd-spec =
@@ -76,7 +73,6 @@ ulb-write-7ffd-spec =
     write-7ffd-requires
     paged-code-requires
     paging-after-requires
-    with-paging-requires
     encode-requires
     cast-fill-number
     fill-number-requires
