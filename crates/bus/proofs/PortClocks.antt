@@ -26,7 +26,7 @@ use Rattle.ports.specs.declared.Written.{Written}
 use Rattle.ports.specs.declared.Written.the-variants as written
 use Rattle.ports.specs.Order.{writeOrder}
 use Rattle.bus.specs.World.{Core, World}
-use Rattle.bus.specs.Time.{Op, tick, inCore}
+use Rattle.bus.specs.Time.{Hold, free, due, lasts, Op, step, tick, inCore}
 use Rattle.bus.specs.Turns.{clocksOf, turned, ran, coreAfter, fresh, andThen, ranBy}
 use Rattle.bus.specs.Calls.{contended, plainWait, delayed, addressWait, firstPart, lastPart, finalStep, readBefore, portRead, repaged, actedOn, portWrite}
 use Rattle.bus.proofs.OneStep.{goes-on-if, core-goes}
@@ -67,9 +67,9 @@ module _ (s : ZXSpecs) where
     inside : (t - s .contention) % s .line < 128
     ends : d + (t - s .contention) % s .line % 8 ≡ 6
 
-  due : (t : ℕ) → 0 < delay s t → Due t (delay s t)
+  is-due : (t : ℕ) → 0 < delay s t → Due t (delay s t)
   unfolding delay
-  due t =
+  is-due t =
       by-lt (λ (d : ℕ). 0 < d → Due t d) t (s .contention) (λ h p. absurd (omega arith))
       (λ h. by-le (λ (d : ℕ). 0 < d → Due t d) (s .contention + 192 * s .line) t (λ k p. absurd (omega arith))
       (λ k p. let u = held-due ((t - s .contention) % s .line) p in record { from = h; before = k; inside = u .0; ends = u .1 }))
@@ -85,7 +85,7 @@ module _ (s : ZXSpecs) (g : Regular s) where
   -- AFTER A DELAY AND ONE CLOCK NONE IS DUE.
   pub next-free : (t : ℕ) → 0 < delay s t → delay s (t + delay s t + 1) ≡ 0
   next-free t p =
-      let d = due s t p in
+      let d = is-due s t p in
       let w = g .wide in
       let c : t + delay s t + 1 - s .contention ≡ t - s .contention + (delay s t + 1) = omega arith in
       let moved : (t + delay s t + 1 - s .contention) % s .line ≡ (t - s .contention) % s .line + (delay s t + 1) =
@@ -103,7 +103,7 @@ module _ (s : ZXSpecs) (g : Regular s) where
   -- A delay and one clock more end within the frame: the last contended line has clocks to spare.
   pub due-inside : (t : ℕ) → 0 < delay s t → t + delay s t + 1 < s .frame
   due-inside t p =
-      let d = due s t p in
+      let d = is-due s t p in
       let c = t - s .contention in
       let l = s .line in
       let w = g .wide in
@@ -116,8 +116,9 @@ module _ (s : ZXSpecs) (g : Regular s) where
 
 module _ (m : ZXMachine) where
   -- a step that stays within the frame
-  stays : (n : ℕ) (c : Core) → c .clock + n < specsOf m .frame → inCore m (tick n) c .clock ≡ c .clock + n
-  stays n c h = ap (λ (r : Core). r .clock) (core-goes m n c (goes-on-if m n c h))
+  stays : (h : Hold) (n : ℕ) (c : Core) → c .clock + lasts h n < specsOf m .frame → inCore m (step h n) c .clock ≡ c .clock + lasts h n
+  unfolding inCore
+  stays h n c k = ap (λ (r : Core). r .clock) (core-goes m (lasts h n) c (goes-on-if m (lasts h n) c k))
 
   -- A wait of n clocks at an address takes n clocks, and up to 6 more where its page is contended.
   pub wait-clocks : (addr n : ℕ) (c : Core) → (n ≤ clocksIn (addressWait m addr n c)) × (clocksIn (addressWait m addr n c) ≤ n + 6)
@@ -135,14 +136,14 @@ module _ (m : ZXMachine) where
       let s = specsOf m in
       by-bool (λ (os : List Op). clocksIn (os ++ (tick 1 ∷ [])) + delay s (coreAfter m (os ++ (tick 1 ∷ [])) c .clock) ≤ 7) (contended m port c)
       (λ e.
-      let c₁ = inCore m (tick (delay s (c .clock) + 0)) c in
+      let c₁ = inCore m (step (due (delay s (c .clock))) 0) c in
       omega (
         arith,
         pair-small s (regular m) (c .clock) (inCore m (tick 1) c₁ .clock)
             (λ p.
             let i = due-inside s (regular m) (c .clock) p in
-            let f = stays (delay s (c .clock) + 0) c (omega arith) in
-            let g = stays 1 c₁ (omega arith) in
+            let f = stays (due (delay s (c .clock))) 0 c (omega arith) in
+            let g = stays free 1 c₁ (omega arith) in
             omega arith),
       ))
       (λ e. omega (arith, delay-small s (inCore m (tick 1) c .clock)))
@@ -158,13 +159,13 @@ module _ (m : ZXMachine) where
       by-bool P (portContended m port) (λ e. (omega arith, omega arith))
       (λ e. by-bool P (contended m port c)
       (λ f.
-      let c₁ = inCore m (tick (delay s (c .clock) + 1)) c in
-      let c₂ = inCore m (tick (delay s (c₁ .clock) + 1)) c₁ in
+      let c₁ = inCore m (step (due (delay s (c .clock))) 1) c in
+      let c₂ = inCore m (step (due (delay s (c₁ .clock))) 1) c₁ in
       let two =
       pair-small s (regular m) (c₁ .clock) (c₂ .clock)
       (λ p.
       let i = due-inside s (regular m) (c₁ .clock) p in
-      let g = stays (delay s (c₁ .clock) + 1) c₁ (omega arith) in
+      let g = stays (due (delay s (c₁ .clock))) 1 c₁ (omega arith) in
       omega arith) in
       (omega arith, omega arith))
       (λ f. (omega arith, omega arith)))
@@ -214,7 +215,7 @@ module _ (m : ZXMachine) where
       let low = wait-clocks port 1 c in
       let first = first-small port c in
       let last = last-small port c₂ in
-      let due = ap (delay (specsOf m)) (still .1) in
+      let same = ap (delay (specsOf m)) (still .1) in
       rw sum (omega arith, omega arith)
 
 -- ---- calls

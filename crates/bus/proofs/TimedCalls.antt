@@ -15,7 +15,7 @@ use Rattle.ports.specs.declared.Written.{Written}
 use Rattle.ports.specs.declared.Written.the-variants as written
 use Rattle.ports.specs.Order.{writeOrder}
 use Rattle.bus.specs.World.{Core}
-use Rattle.bus.specs.Time.{Op, tick, colour, paged, poke, load, unpass}
+use Rattle.bus.specs.Time.{store, paged, unpass, Op, step, colour, silent}
 use Rattle.bus.specs.Turns.{clocksOf, coreAfter, Part, andThen}
 use Rattle.bus.specs.Calls.{contended, plainWait, delayed, addressWait, firstPart, lastPart, finalStep, readBefore, portRead, repaged, actedOn, portWrite}
 use Rattle.bus.proofs.Runs.{clocksIn}
@@ -23,12 +23,11 @@ use Rattle.bus.proofs.PortClocks.{wait-clocks, read-small, write-small}
 
 -- A timed call steps, writes the border in a colour 0..7, and writes a 7FFD byte, on 128K only; it does nothing else.
 abbrev pub InCall : ZXMachine → Op → Type 0
-InCall m (tick n) = Unit {0}
+InCall m (step h n) = Unit {0}
 InCall m (colour k) = k < 8
-InCall m (paged v) = (v < 256) × (m ≡ Sinclair128K)
-InCall m (poke i v) = ⊥
-InCall m (load p bytes) = ⊥
-InCall m unpass = ⊥
+InCall m (silent (paged v)) = (v < 256) × (m ≡ Sinclair128K)
+InCall m (silent (store at bytes)) = ⊥
+InCall m (silent unpass) = ⊥
 
 abbrev pub AllInCall : ZXMachine → List Op → Type 0
 AllInCall m [] = Unit {0}

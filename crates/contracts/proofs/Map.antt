@@ -32,7 +32,7 @@ use Rattle.ports.specs.Order.{writeOrder, writtenCode}
 use Rattle.bus.specs.World.{Core, busOf}
 use Rattle.bus.specs.Time.{Op, closes, inCore}
 use Rattle.bus.specs.Turns.{coreAfter, fresh, Part, andThen, ranBy}
-use Rattle.bus.specs.Calls.{contended, plainWait, delayed, addressWait, firstPart, heldStep, lastPart, finalStep, readBefore, portRead, repaged, actedOn, portWrite, writeCode}
+use Rattle.bus.specs.Calls.{contended, plainWait, delayed, addressWait, firstPart, delayStep, lastPart, finalStep, readBefore, portRead, repaged, actedOn, portWrite, writeCode}
 use Rattle.bus.proofs.Runs.{ran-machine, ran-core, core-then}
 use Rattle.answers.specs.declared.Verdict.{Verdict}
 use Rattle.answers.specs.declared.Verdict.the-variants.{Refused, Accepted}
@@ -246,7 +246,8 @@ module _ (m : ZXMachine) where
   keep-then : (f g : Part) → Keeps f → Keeps g → Keeps (andThen m f g)
   keep-then f g a b c = ap (λ (r : Core). r .paging) (core-then m f g c) ∙ b (coreAfter m (f c) c) ∙ a c
 
-  keep-held : (n : ℕ) → Keeps (heldStep m n)
+  keep-held : (n : ℕ) → Keeps (delayStep m n)
+  unfolding coreAfter inCore
   keep-held n c = keep-step (delay (specsOf m) (c .clock) + n) c
 
   keep-wait : (addr n : ℕ) → Keeps (addressWait m addr n)
@@ -261,7 +262,7 @@ module _ (m : ZXMachine) where
   keep-last port c =
       by-bool (Leaves c) (portContended m port) (λ e. keep-held 2 c)
       (λ e. by-bool (Leaves c) (contended m port c)
-      (λ f. keep-then (heldStep m 1) _ (keep-held 1) (keep-then (heldStep m 1) (heldStep m 0) (keep-held 1) (keep-held 0)) c)
+      (λ f. keep-then (delayStep m 1) _ (keep-held 1) (keep-then (delayStep m 1) (delayStep m 0) (keep-held 1) (keep-held 0)) c)
       (λ f. keep-step 2 c))
 
   keep-read : (port : ℕ) → Keeps (portRead m port)

@@ -13,7 +13,7 @@ use Rattle.machine.proofs.Numbered.{regular}
 use Rattle.machine.proofs.Rising.{blocks-mono, blocks-at-end}
 use Rattle.border.specs.Edge.{finished}
 use Rattle.bus.specs.World.{Core, World, clearPicture, clearBorder, started}
-use Rattle.bus.specs.Time.{Op, tick, colour, paged, poke, load, unpass, lookAt, closes, inCore, inEdge, does, worldAfter}
+use Rattle.bus.specs.Time.{lasts, Op, step, tick, colour, silent, lookAt, closes, inCore, inScreen, inEdge, does, worldAfter}
 use Rattle.bus.specs.Turns.{clocksOf, blocksOf, closedBy}
 use Rattle.bus.proofs.OneStep.{closes-at, edge-closed}
 use Rattle.bus.proofs.Runs.{clocksIn, blocksIn}
@@ -51,12 +51,9 @@ colours-tick m n c l false z h =
 colours-kept : (m : ZXMachine) (o : Op) (c : Core) (l : Log) → Chained (l .current) (l .done)
     → Chained (noted m o c l .current) (noted m o c l .done)
 unfolding noted
-colours-kept m (tick n) c l h = colours-tick m n c l (closes m n c) refl h
+colours-kept m (step k n) c l h = colours-tick m (lasts k n) c l (closes m (lasts k n) c) refl h
 colours-kept m (colour k) c l h = chained-same (l .current) (noted m (colour k) c l .current) refl (l .done) h
-colours-kept m (paged v) c l h = h
-colours-kept m (poke i v) c l h = h
-colours-kept m (load p s) c l h = h
-colours-kept m unpass c l h = h
+colours-kept m (silent o) c l h = h
 
 never : false ≡ true → ⊥
 never e = let z : _≡_ {A = ℕ} 0 1 = cc in omega arith
@@ -102,13 +99,10 @@ module _ (m : ZXMachine) where
 
   frames-kept : (o : Op) (T B F : ℕ) (w : World) (l : Log) (ss : List Still) → Inv m T B F w l ss
       → AllShow (filmed m o w ss) (noted m o (w .core) l .done)
-  unfolding filmed noted
-  frames-kept (tick n) T B F w l ss i = frames-tick n T B F w l ss (closes m n (w .core)) refl i
+  unfolding filmed noted inCore inScreen inEdge
+  frames-kept (step h n) T B F w l ss i = frames-tick (lasts h n) T B F w l ss (closes m (lasts h n) (w .core)) refl i
   frames-kept (colour k) T B F w l ss i = i .frames
-  frames-kept (paged v) T B F w l ss i = i .frames
-  frames-kept (poke j v) T B F w l ss i = i .frames
-  frames-kept (load p s) T B F w l ss i = i .frames
-  frames-kept unpass T B F w l ss i = i .frames
+  frames-kept (silent o) T B F w l ss i = i .frames
 
   -- one operation
   pub op-kept : (o : Op) (T B F : ℕ) (w : World) (l : Log) (ss : List Still) → Small o → Inv m T B F w l ss

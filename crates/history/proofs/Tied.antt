@@ -30,13 +30,13 @@ use Rattle.memory.specs.Memory.{placeOf, pokedIn, poked, loaded}
 use Rattle.memory.proofs.Places.{exists-fits}
 use Rattle.ports.specs.Devices.{devicesOf}
 use Rattle.bus.specs.World.{Core, World, busOf}
-use Rattle.bus.specs.Time.{Op, paged, poke, load, unpass, inCore, inScreen, inEdge, worldAfter}
+use Rattle.bus.specs.Time.{Silent, paged, unpass, Op, silent, inCore, inScreen, inEdge, worldAfter}
 use Rattle.bus.specs.Turns.{clocksOf, blocksOf, closedBy, Turn, Part, ran, fresh}
 use Rattle.bus.specs.Calls.{plainWait, addressWait, portRead, readValue, portWrite, writeCode, repaged, pagingWrite}
 use Rattle.bus.proofs.Runs.{clocksIn, blocksIn, closedIn, ran-is, ran-world, fresh-blocks}
 use Rattle.bus.proofs.PortClocks.{read-small, write-small}
 use Rattle.bus.proofs.TimedCalls.{Timed, plain-timed, address-timed, read-timed, write-timed}
-use Rattle.bus.proofs.Lengths.{SameLengths, Fits, lengths-kept, call-lengths}
+use Rattle.bus.proofs.Lengths.{SameLengths, lengths-kept, call-lengths}
 use Rattle.bus.proofs.Kept.{SoundWorld, InRange, op-kept, call-kept}
 use Rattle.bus.proofs.Reports.{call-fits}
 use Rattle.answers.specs.declared.Verdict.{Verdict}
@@ -46,7 +46,7 @@ use Rattle.answers.specs.Answers.{timedAnswer}
 use Rattle.contracts.specs.Timed.{Lent, lentBy, Outcome, timed, timedEnd, noValue, Started, start, waitInternal, waitAt, readIo, writeIo}
 use Rattle.contracts.specs.Plain.{codeOf, change, repage, withPaging, withPassed, writeInternal, write7ffdCall, resetFrames, loadPage}
 use Rattle.history.specs.Calls.{lend, Lens, lentOf, handedBack, Kind, startAgain, plain, mreq, noMreq, portIn, portOut, readByte, writeByte, writePaging, readPaging, askInterrupt, askFrames, resetPassed, loadRam, askPage, askBlock, askShown, still, helpLineAddr, helpLine, helpColumn, helpAttrRow, helpAttrColumn, helpColor, Left, ofOutcome, withRam, withState, performed, called, reportedClocks, reportedBlocks, reportedClosed, Typed, NoStart, PortTakes}
-use Rattle.bus.specs.Pokes.{poking}
+use Rattle.bus.specs.Pokes.{poking, pageLoad}
 use Rattle.history.specs.Demand.{opsOf, blind, callOps}
 use Rattle.history.proofs.Operations.{closings, AllSmall}
 use Rattle.history.proofs.Whole.{Sized, loan-whole, untouched, ram-changed, state-changed, LentWhole, lent-whole, handed-whole}
@@ -161,7 +161,7 @@ module _ (m : ZXMachine) (w : World) (sound : SoundWorld m w) (sized : Sized m w
       let same = ran-world (f (w .core)) (fresh m w) in
       record {
         sound = subst (SoundWorld m) same (call-kept m f t w sound room);
-        lengths = subst (SameLengths w) same (call-lengths m f t w);
+        lengths = subst (SameLengths w) same (call-lengths m f w);
         brief = t .brief (w .core);
       }
 
@@ -278,31 +278,22 @@ module _ (m : ZXMachine) (w : World) (sound : SoundWorld m w) (sized : Sized m w
     unfolding worldAfter clocksIn blocksIn closings
     quiet-none = record { kept = record { sound = sound; lengths = no-lengths w; brief = omega arith }; clocks = refl; blocks = refl; closed = refl }
 
-    one-kept : (o : Op) → InRange m o → Fits o w → clocksOf o ≡ 0 → Kept m (o ∷ []) w
+    one-kept : (o : Op) → InRange m o → clocksOf o ≡ 0 → Kept m (o ∷ []) w
     unfolding worldAfter clocksIn
-    one-kept o r f z =
+    one-kept o r z =
         record {
           sound = op-kept m o w sound r (omega (arith, sound .clock)) (λ h. absurd (omega (arith, sound .clock)));
-          lengths = lengths-kept m o w f;
+          lengths = lengths-kept m o w;
           brief = omega arith;
         }
 
+    quiet-silent : (o : Silent) → InRange m (silent o) → Quiet (silent o ∷ [])
+    unfolding clocksIn blocksIn closings clocksOf blocksOf closedBy
+    quiet-silent o r = record { kept = one-kept (silent o) r refl; clocks = refl; blocks = refl; closed = refl }
+
     quiet-poke : (p : Place) (value : ℕ) → Quiet (poking p value)
-    unfolding clocksIn blocksIn closings clocksOf blocksOf closedBy
     quiet-poke (place.Rom at) value = quiet-none
-    quiet-poke (place.Ram at) value = record { kept = one-kept (poke at value) tt tt refl; clocks = refl; blocks = refl; closed = refl }
-
-    quiet-unpass : Quiet (unpass ∷ [])
-    unfolding clocksIn blocksIn closings clocksOf blocksOf closedBy
-    quiet-unpass = record { kept = one-kept unpass tt tt refl; clocks = refl; blocks = refl; closed = refl }
-
-    quiet-load : (page : ℕ) (bytes : List ℕ) → length bytes ≡ 16384 → 16384 * page + 16384 ≤ length (w .core .ram) → Quiet (load page bytes ∷ [])
-    unfolding clocksIn blocksIn closings clocksOf blocksOf closedBy
-    quiet-load page bytes e h = record { kept = one-kept (load page bytes) tt (e, h) refl; clocks = refl; blocks = refl; closed = refl }
-
-    quiet-paged : (v : ℕ) → v < 256 → m ≡ Sinclair128K → Quiet (paged v ∷ [])
-    unfolding clocksIn blocksIn closings clocksOf blocksOf closedBy
-    quiet-paged v h e = record { kept = one-kept (paged v) (h, e) tt refl; clocks = refl; blocks = refl; closed = refl }
+    quiet-poke (place.Ram at) value = quiet-silent _ tt
 
     -- a call that fills no timed answer reports nothing
     still-tied : (k : Kind) (os : List Op) → performed k (lentOf n l) .timed ≡ [] → Quiet os
@@ -375,34 +366,34 @@ module _ (m : ZXMachine) (w : World) (sound : SoundWorld m w) (sized : Sized m w
           omega (arith, there, sized .ram),
         )
 
-    load-world : (bytes : List ℕ) (page : ℕ) → withRam l (loaded page bytes (w .core .ram)) ≡ lentBy m (worldAfter m (load page bytes ∷ []) w)
+    load-world : (bytes : List ℕ) (page : ℕ) → withRam l (loaded page bytes (w .core .ram)) ≡ lentBy m (worldAfter m (pageLoad page bytes (w .core)) w)
     unfolding worldAfter inCore inScreen inEdge
     load-world bytes page = refl
 
     load-tied : (bytes : List ℕ) (page : ℕ) → codeOf (verdictBy (loadCauses bytes page) (lentOf n l)) ≡ 0
-        → Tied m (called (record { lens = n; kind = loadRam bytes page }) l) (load page bytes ∷ []) w
+        → Tied m (called (record { lens = n; kind = loadRam bytes page }) l) (pageLoad page bytes (w .core)) w
     unfolding performed loadPage judgeLoad
     load-tied bytes page e =
         let a = load-judged bytes page e in
         let slice = lend (n .ram) (w .core .ram) in
         let new : Bus → List ℕ = λ bus. loaded page bytes slice in
-        still-tied (loadRam bytes page) (load page bytes ∷ []) refl (quiet-load page bytes (a .2) (a .3))
+        still-tied (loadRam bytes page) (pageLoad page bytes (w .core)) refl (quiet-silent _ tt)
         (ap (λ (v : Verdict). handedBack n l (withRam (lentOf n l) (change new slice v .slice))) (a .0)
         ∙ ap (λ (xs : List ℕ). handedBack n l (withRam (lentOf n l) (loaded page bytes xs))) (loan-whole (n .ram) (w .core .ram) (a .1))
-        ∙ ram-left (load page bytes ∷ []) (loaded page bytes (w .core .ram)) (quiet-load page bytes (a .2) (a .3)) (a .1) (load-world bytes page))
+        ∙ ram-left (pageLoad page bytes (w .core)) (loaded page bytes (w .core .ram)) (quiet-silent _ tt) (a .1) (load-world bytes page))
 
     -- the reset of passed frames
-    reset-world : withState l (recordBytes (withPassed 0 (busOf m w))) ≡ lentBy m (worldAfter m (unpass ∷ []) w)
+    reset-world : withState l (recordBytes (withPassed 0 (busOf m w))) ≡ lentBy m (worldAfter m (silent unpass ∷ []) w)
     unfolding worldAfter inCore inScreen inEdge
     reset-world = refl
 
-    reset-tied : codeOf (verdictBy noCauses (lentOf n l)) ≡ 0 → Tied m (called (record { lens = n; kind = resetPassed }) l) (unpass ∷ []) w
+    reset-tied : codeOf (verdictBy noCauses (lentOf n l)) ≡ 0 → Tied m (called (record { lens = n; kind = resetPassed }) l) (silent unpass ∷ []) w
     unfolding performed resetFrames judgeState
     reset-tied e =
         let a = accepting m w sound (n .state) (λ bus. noCauses (sizesOf (lentOf n l)) (bus .machine) (bus .passed)) e in
         let slice = lend (n .state) (recordBytes (busOf m w)) in
         let new : Bus → List ℕ = λ bus. recordBytes (withPassed 0 bus) in
-        still-tied resetPassed (unpass ∷ []) refl quiet-unpass
+        still-tied resetPassed (silent unpass ∷ []) refl (quiet-silent unpass tt)
         (ap (λ (v : Verdict). handedBack n l (withState (lentOf n l) (change new slice v .slice))) (a .verdict)
         ∙ state-changed n l (recordBytes (withPassed 0 (busOf m w))) (a .whole) refl
         ∙ reset-world)
@@ -417,7 +408,7 @@ module _ (m : ZXMachine) (w : World) (sound : SoundWorld m w) (sized : Sized m w
     quiet-repaged : (v : ℕ) → v < 256 → (p : Paged) → Takes m v p → Quiet (repaged p)
     quiet-repaged v h paging.Absent f = quiet-none
     quiet-repaged v h paging.Locked f = quiet-none
-    quiet-repaged v h (paging.Taken u) f = let g = f u refl in quiet-paged u (omega (arith, g .0)) (g .1)
+    quiet-repaged v h (paging.Taken u) f = let g = f u refl in quiet-silent (paged u) (omega (arith, g .0), g .1)
 
     paging-tied : (v : ℕ) (answer : List ℕ) → v < 256 → codeOf (verdictBy (toldCauses answer) (lentOf n l)) ≡ 0
         → Tied m (called (record { lens = n; kind = writePaging v answer }) l) (pagingWrite m v (w .core)) w

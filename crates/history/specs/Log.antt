@@ -13,7 +13,7 @@ use Rattle.machine.specs.Timing.{borderPosition}
 use Rattle.paint.specs.Paint.{blockAt, blocks}
 use Rattle.memory.specs.Memory.{ramPage}
 use Rattle.bus.specs.World.{Core, World, clearPicture}
-use Rattle.bus.specs.Time.{Op, tick, colour, paged, poke, load, unpass, Look, lookAt, closes, inCore, does, shownPicture}
+use Rattle.bus.specs.Time.{lasts, Op, step, colour, silent, Look, lookAt, closes, inCore, does, shownPicture}
 
 -- a border write: its position, 76,800 at frame end, and its colour
 pub record Ink : Type 0 where
@@ -56,13 +56,10 @@ frameGoesOn m n c l = record { current = looked (lookAt m (c .clock + n) c) (l .
 
 -- what an operation adds to the log
 unfoldable pub noted : ZXMachine → Op → Core → Log → Log
-noted m (tick n) c l = cond (closes m n c) (frameEnds m n c l) (frameGoesOn m n c l)
+noted m (step h n) c l = cond (closes m (lasts h n) c) (frameEnds m (lasts h n) c l) (frameGoesOn m (lasts h n) c l)
 noted m (colour k) c l =
     record { current = inkedWith (record { at = borderPosition (specsOf m) (c .clock); colour = k }) (l .current); done = l .done }
-noted m (paged v) c l = l
-noted m (poke i v) c l = l
-noted m (load p bytes) c l = l
-noted m unpass c l = l
+noted m (silent o) c l = l
 
 unfoldable pub follow : ZXMachine → List Op → Core → Log → Log
 follow m [] c l = l
@@ -125,12 +122,9 @@ abbrev pub stillOf : World → Still
 stillOf w = record { picture = shownPicture (w .core) (w .screen); border = w .edge .pixels }
 
 unfoldable pub filmed : ZXMachine → Op → World → List Still → List Still
-filmed m (tick n) w ss = cond (closes m n (w .core)) (stillOf (does m (tick n) w) ∷ ss) ss
+filmed m (step h n) w ss = cond (closes m (lasts h n) (w .core)) (stillOf (does m (step h n) w) ∷ ss) ss
 filmed m (colour k) w ss = ss
-filmed m (paged v) w ss = ss
-filmed m (poke i v) w ss = ss
-filmed m (load p bytes) w ss = ss
-filmed m unpass w ss = ss
+filmed m (silent o) w ss = ss
 
 unfoldable pub film : ZXMachine → List Op → World → List Still → List Still
 film m [] w ss = ss

@@ -20,9 +20,9 @@ use Rattle.ports.specs.declared.Written.{Written}
 use Rattle.ports.specs.declared.Written.the-variants as written
 use Rattle.ports.specs.Order.{readOrder, classC000, class8000, evenPort, pagingPort, claims, has7ffd, portOrder, writeOrder, writtenCode}
 use Rattle.bus.specs.World.{Core, World}
-use Rattle.bus.specs.Time.{Op, does, worldAfter}
+use Rattle.bus.specs.Time.{Op, inCore, inScreen, inEdge, does, worldAfter}
 use Rattle.bus.specs.Turns.{Part, andThen, coreAfter}
-use Rattle.bus.specs.Calls.{contended, plainWait, delayed, addressWait, firstPart, heldStep, lastPart, finalStep, readBefore, portRead, answered, readValue, actedOn, portWrite, writeCode}
+use Rattle.bus.specs.Calls.{contended, plainWait, delayed, addressWait, firstPart, delayStep, lastPart, finalStep, readBefore, portRead, answered, readValue, actedOn, portWrite, writeCode}
 use Rattle.bus.proofs.Runs.{world-core}
 use Rattle.machine.specs.declared.ZXMachine as ours
 use Rattle.rustzx.specs.Panics as run
@@ -78,14 +78,14 @@ module _ (m : ZXMachine) (rom : List ℕ) where
       ∙ ap (pageContended (ourMachine m)) (page-is (ourMachine m) rom (w .core .ram) (w .core .paging) (c .memory) (r .memory) addr)
 
   -- do_contention_and_wait and do_contention
-  held-follows : (n : ℕ) → Follows (heldStep (ourMachine m) n) (doContentionAndWait n)
-  unfolding worldAfter
+  held-follows : (n : ℕ) → Follows (delayStep (ourMachine m) n) (doContentionAndWait n)
+  unfolding worldAfter inCore inScreen inEdge
   held-follows n c w r =
       let e : contentionClocks (c .machine) (c .frameClocks) ≡ delay (specsOf (ourMachine m)) (w .core .clock) =
       ap₂ contentionClocks (r .machine) (r .clock) ∙ contention-is m (w .core .clock) in
       rw e (wait-related m rom c w (delay (specsOf (ourMachine m)) (w .core .clock) + n) r)
 
-  hold-follows : Follows (heldStep (ourMachine m) 0) doContention
+  hold-follows : Follows (delayStep (ourMachine m) 0) doContention
   hold-follows c w r = rw (add-zero (contentionClocks (c .machine) (c .frameClocks))) at (held-follows 0 c w r)
 
   pick-follows : (t : Bool) (x y : List Op) {c′ c″ : ZXController} (w : World) → Related m rom c′ (worldAfter (ourMachine m) x w) → Related m rom c″ (worldAfter (ourMachine m) y w)
@@ -96,7 +96,7 @@ module _ (m : ZXMachine) (rom : List ℕ) where
   delayed-follows : (addr : ℕ) → Follows (delayed (ourMachine m) addr) (contendedFirst addr)
   unfolding delayed worldAfter
   delayed-follows addr c w r =
-      rw (contended-follows addr c w r) (pick-follows (contended (ourMachine m) addr (w .core)) (heldStep (ourMachine m) 0 (w .core)) [] w (hold-follows c w r) r)
+      rw (contended-follows addr c w r) (pick-follows (contended (ourMachine m) addr (w .core)) (delayStep (ourMachine m) 0 (w .core)) [] w (hold-follows c w r) r)
 
   -- wait_mreq, and wait_no_mreq, which calls it
   pub wait-follows : (addr n : ℕ) → Follows (addressWait (ourMachine m) addr n) (waitMreq addr n)
@@ -113,10 +113,10 @@ module _ (m : ZXMachine) (rom : List ℕ) where
   unfolding lastPart ioContentionLast
   last-follows port c w r =
       rw (ap (λ (n : ZXMachine). portIsContended n port) (r .machine) ∙ port-is m port, contended-follows port c w r)
-      (pick-follows (portContended (ourMachine m) port) (heldStep (ourMachine m) 2 (w .core)) (cond (contended (ourMachine m) port (w .core)) (andThen (ourMachine m) (heldStep (ourMachine m) 1) (andThen (ourMachine m) (heldStep (ourMachine m) 1) (heldStep (ourMachine m) 0)) (w .core)) (plainWait 2 (w .core))) w (held-follows 2 c w r)
-      (pick-follows (contended (ourMachine m) port (w .core)) (andThen (ourMachine m) (heldStep (ourMachine m) 1) (andThen (ourMachine m) (heldStep (ourMachine m) 1) (heldStep (ourMachine m) 0)) (w .core)) (plainWait 2 (w .core)) w
-      (then-follows (heldStep (ourMachine m) 1) (andThen (ourMachine m) (heldStep (ourMachine m) 1) (heldStep (ourMachine m) 0)) (doContentionAndWait 1) (λ x. doContention (doContentionAndWait 1 x)) (held-follows 1)
-      (then-follows (heldStep (ourMachine m) 1) (heldStep (ourMachine m) 0) (doContentionAndWait 1) doContention (held-follows 1) hold-follows) c w r)
+      (pick-follows (portContended (ourMachine m) port) (delayStep (ourMachine m) 2 (w .core)) (cond (contended (ourMachine m) port (w .core)) (andThen (ourMachine m) (delayStep (ourMachine m) 1) (andThen (ourMachine m) (delayStep (ourMachine m) 1) (delayStep (ourMachine m) 0)) (w .core)) (plainWait 2 (w .core))) w (held-follows 2 c w r)
+      (pick-follows (contended (ourMachine m) port (w .core)) (andThen (ourMachine m) (delayStep (ourMachine m) 1) (andThen (ourMachine m) (delayStep (ourMachine m) 1) (delayStep (ourMachine m) 0)) (w .core)) (plainWait 2 (w .core)) w
+      (then-follows (delayStep (ourMachine m) 1) (andThen (ourMachine m) (delayStep (ourMachine m) 1) (delayStep (ourMachine m) 0)) (doContentionAndWait 1) (λ x. doContention (doContentionAndWait 1 x)) (held-follows 1)
+      (then-follows (delayStep (ourMachine m) 1) (delayStep (ourMachine m) 0) (doContentionAndWait 1) doContention (held-follows 1) hold-follows) c w r)
       (plain-follows 2 c w r)))
 
   before-follows : (port : ℕ) → Follows (readBefore (ourMachine m) port) (λ c. ioContentionLast port (ioContentionFirst port c))
