@@ -9,7 +9,7 @@ use Rattle.laws.proofs.Cases.{by-bool}
 use Rattle.machine.specs.declared.ZXMachine.{ZXMachine}
 use Rattle.machine.specs.Contended.{portContended}
 use Rattle.ports.specs.declared.Devices.{Devices}
-use Rattle.ports.specs.Order.{writeOrder}
+use Rattle.ports.specs.Hearers.{hearers}
 use Rattle.bus.specs.World.{Core, World}
 use Rattle.bus.specs.Time.{free, due, Op, step, colour, silent}
 use Rattle.bus.specs.Turns.{clocksOf, delayOf, ownOf, delays, ownClocks, coreAfter, fresh, Part, andThen, ranBy}
@@ -76,16 +76,16 @@ module _ (m : ZXMachine) where
       both 3 1 (readBefore m port) finalStep (both 1 2 (firstPart m port) (lastPart m port) (address-own port 1) (last-own port)) (plain-own 1)
 
   module _ (d : Devices) (port v : ℕ) where
-    acted-own : Own 0 (actedOn m (writeOrder m d port) v)
+    acted-own : Own 0 (actedOn m (hearers m d port) v)
     acted-own c =
-        let os = actedOn m (writeOrder m d port) v c in
-        omega (arith, clocks-split os, acted-still m (writeOrder m d port) v c .0)
+        let os = actedOn m (hearers m d port) v c in
+        omega (arith, clocks-split os, acted-still m (hearers m d port) v c .0)
 
     -- and so are those of a PORT WRITE.
     pub write-own : Own 4 (portWrite m d port v)
     write-own =
         both 1 3 (firstPart m port) _ (address-own port 1)
-        (both 0 3 (actedOn m (writeOrder m d port) v) _ acted-own (both 2 1 (lastPart m port) finalStep (last-own port) (plain-own 1)))
+        (both 0 3 (actedOn m (hearers m d port) v) _ acted-own (both 2 1 (lastPart m port) finalStep (last-own port) (plain-own 1)))
 
   -- So a port call reports 4 clocks and its delays.
   pub read-split : (port : ℕ) (w : World) → ranBy (portRead m port) (fresh m w) .clocks ≡ delays (portRead m port (w .core)) + 4

@@ -23,18 +23,18 @@ use Rattle.memory.specs.declared.Paged.the-variants as paging
 use Rattle.memory.specs.Paging.{addrContended, write7ffd}
 use Rattle.memory.proofs.Agree.{agree-held}
 use Rattle.ports.specs.declared.Devices.{Devices}
-use Rattle.ports.specs.declared.Written.{Written}
-use Rattle.ports.specs.declared.Written.the-variants as written
-use Rattle.ports.specs.Order.{claims, has7ffd, classC000, class8000, evenPort, pagingPort, portOrder, writeOrder}
+use Rattle.ports.specs.Order.{claims, has7ffd, classC000, class8000, evenPort, pagingPort}
+use Rattle.ports.specs.Hearers as hearer
+use Rattle.ports.specs.Hearers.{Hearer, portHearers, hearers}
 use Rattle.ports.specs.Pages.{isSet}
 use Rattle.ports.proofs.Agree.{read-pages}
 use Rattle.bus.specs.World.{Core, World}
 use Rattle.bus.specs.Time.{Hold, free, due, lasts, step, closes, inCore}
-use Rattle.bus.specs.Turns.{clocksOf, coreAfter, fresh, andThen, ranBy}
+use Rattle.bus.specs.Turns.{clocksOf, coreAfter, fresh, Part, andThen, ranBy}
 use Rattle.bus.specs.Calls.{contended, delayed, addressWait, firstPart, lastPart, finalStep, readBefore, portRead, repaged, actedOn, portWrite}
 use Rattle.bus.specs.Pages.{Cycle, C, N, highByteHeld, rowOf, takes, inFrame, endOf, takeAll, pagePort, memoryCycle}
 use Rattle.bus.proofs.OneStep.{frame-long}
-use Rattle.bus.proofs.Runs.{clocksIn, clocks-then, fresh-clocks}
+use Rattle.bus.proofs.Runs.{acts-alone, clocksIn, clocks-then, fresh-clocks}
 use Rattle.bus.proofs.PortClocks.{acted-still, final-clock}
 
 -- ---- the pages' clock
@@ -185,9 +185,9 @@ paging-low port h e =
     not-true false q = refl
 
 module _ (m : ZXMachine) (port v : ℕ) (h : port < 65536) (c : Core) where
-  -- what an operation of the write leaves of the port as an address
-  abbrev Stays : Written → Type 0
-  Stays w = contended m port (coreAfter m (actedOn m w v c) c) ≡ contended m port c
+  -- what the acts of the write leave of the port as an address
+  abbrev Stays : List Hearer → Type 0
+  Stays hs = contended m port (coreAfter m (actedOn m hs v c) c) ≡ contended m port c
 
   repaged-stays : port < 0x8000 → (q : Paged) → contended m port (coreAfter m (repaged q) c) ≡ contended m port c
   unfolding coreAfter inCore
@@ -195,15 +195,19 @@ module _ (m : ZXMachine) (port v : ℕ) (h : port < 65536) (c : Core) where
   repaged-stays k paging.Locked = refl
   repaged-stays k (paging.Taken b) = low-held m b (c .paging) port k
 
-  acted-stays : (d : Devices) → Stays (writeOrder m d port)
-  unfolding portOrder coreAfter inCore
+  latch-stays : port < 0x8000 → Stays (hearer.paging ∷ [])
+  latch-stays k =
+      ap (λ (f : Part). contended m port (coreAfter m (f c) c)) (acts-alone m hearer.paging v) ∙ repaged-stays k (write7ffd m (c .paging) v)
+
+  acted-stays : (d : Devices) → Stays (hearers m d port)
+  unfolding portHearers coreAfter inCore
   acted-stays d =
       by-bool Stays (claims (d .extender)) (λ e. refl)
       (λ e. by-bool Stays (classC000 port) (λ e. refl)
       (λ e. by-bool Stays (class8000 port) (λ e. refl)
       (λ e. by-bool Stays (evenPort port) (λ e. refl)
       (λ e. by-bool Stays (pagingPort port && has7ffd m)
-      (λ e. repaged-stays (paging-low port h (and-left (pagingPort port) (has7ffd m) e)) (write7ffd m (c .paging) v))
+      (λ e. latch-stays (paging-low port h (and-left (pagingPort port) (has7ffd m) e)))
       (λ e. refl)))))
 
 -- ---- the theorems
@@ -227,11 +231,11 @@ module _ (m : ZXMachine) (port : ℕ) (h : port < 65536) where
   write-is : (d : Devices) (v : ℕ) (c : Core) → c .clock < specsOf m .frame
       → clocksIn (portWrite m d port v c) ≡ pagePort m (c .paging) port (c .clock)
   write-is d v c k =
-      let acts = actedOn m (writeOrder m d port) v in
+      let acts = actedOn m (hearers m d port) v in
       let rest = andThen m (lastPart m port) finalStep in
       let c₁ = coreAfter m (firstPart m port c) c in
       let c₂ = coreAfter m (acts c₁) c₁ in
-      let still = acted-still m (writeOrder m d port) v c₁ in
+      let still = acted-still m (hearers m d port) v c₁ in
       let sum : clocksIn (portWrite m d port v c) ≡ clocksIn (firstPart m port c) + (0 + (clocksIn (lastPart m port c₂) + 1)) =
       clocks-then m (firstPart m port) (andThen m acts rest) c
       ∙ rw (clocks-then m acts rest c₁, clocks-then m (lastPart m port) finalStep c₂, still .0, final-clock m (coreAfter m (lastPart m port c₂) c₂)) in

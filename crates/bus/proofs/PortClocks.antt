@@ -22,15 +22,14 @@ use Rattle.memory.specs.declared.Paged.{Paged}
 use Rattle.memory.specs.declared.Paged.the-variants as paging
 use Rattle.memory.specs.Paging.{write7ffd}
 use Rattle.ports.specs.declared.Devices.{Devices}
-use Rattle.ports.specs.declared.Written.{Written}
-use Rattle.ports.specs.declared.Written.the-variants as written
-use Rattle.ports.specs.Order.{writeOrder}
+use Rattle.ports.specs.Hearers as hearer
+use Rattle.ports.specs.Hearers.{Hearer, hearers}
 use Rattle.bus.specs.World.{Core, World}
 use Rattle.bus.specs.Time.{Hold, free, due, lasts, Op, step, tick, inCore}
 use Rattle.bus.specs.Turns.{clocksOf, turned, ran, coreAfter, fresh, andThen, ranBy}
-use Rattle.bus.specs.Calls.{contended, plainWait, delayed, addressWait, firstPart, lastPart, finalStep, readBefore, portRead, repaged, actedOn, portWrite}
+use Rattle.bus.specs.Calls.{contended, plainWait, delayed, addressWait, firstPart, lastPart, finalStep, readBefore, portRead, repaged, acts, actedOn, portWrite}
 use Rattle.bus.proofs.OneStep.{goes-on-if, core-goes}
-use Rattle.bus.proofs.Runs.{clocksIn, clocks-then, fresh-clocks}
+use Rattle.bus.proofs.Runs.{core-append, clocksIn, clocks-append, clocks-then, fresh-clocks}
 
 -- ---- delays
 
@@ -171,20 +170,33 @@ module _ (m : ZXMachine) where
       (λ f. (omega arith, omega arith)))
 
   -- what a write does between the parts takes no clock
-  repaged-still : (p : Paged) (c : Core) → (clocksIn (repaged p) ≡ 0) × (coreAfter m (repaged p) c .clock ≡ c .clock)
+  abbrev Still : List Op → Core → Type 0
+  Still os c = (clocksIn os ≡ 0) × (coreAfter m os c .clock ≡ c .clock)
+
+  repaged-still : (p : Paged) (c : Core) → Still (repaged p) c
   unfolding clocksIn clocksOf coreAfter inCore
   repaged-still paging.Absent c = (refl, refl)
   repaged-still paging.Locked c = (refl, refl)
   repaged-still (paging.Taken v) c = (refl, refl)
 
-  pub acted-still : (w : Written) (v : ℕ) (c : Core) → (clocksIn (actedOn m w v c) ≡ 0) × (coreAfter m (actedOn m w v c) c .clock ≡ c .clock)
+  acts-still : (h : Hearer) (v : ℕ) (c : Core) → Still (acts m h v c) c
   unfolding clocksIn clocksOf coreAfter inCore
-  acted-still written.Extender v c = (refl, refl)
-  acted-still written.AySelect v c = (refl, refl)
-  acted-still written.AyWrite v c = (refl, refl)
-  acted-still written.Border v c = (refl, refl)
-  acted-still written.Paging v c = repaged-still (write7ffd m (c .paging) v) c
-  acted-still written.Nothing v c = (refl, refl)
+  acts-still hearer.extender v c = (refl, refl)
+  acts-still hearer.aySelect v c = (refl, refl)
+  acts-still hearer.ayWrite v c = (refl, refl)
+  acts-still hearer.border v c = (refl, refl)
+  acts-still hearer.paging v c = repaged-still (write7ffd m (c .paging) v) c
+
+  pub acted-still : (hs : List Hearer) (v : ℕ) (c : Core) → Still (actedOn m hs v c) c
+  unfolding clocksIn coreAfter
+  acted-still [] v c = (refl, refl)
+  acted-still (h ∷ hs) v c =
+      let os = acts m h v c in
+      let c₁ = coreAfter m os c in
+      let ps = actedOn m hs v c₁ in
+      let x = acts-still h v c in
+      let y = acted-still hs v c₁ in
+      (omega (arith, clocks-append os ps, x .0, y .0), ap (λ (r : Core). r .clock) (core-append m os ps c) ∙ y .1 ∙ x .1)
 
   -- the final step
   pub final-clock : (c : Core) → clocksIn (finalStep c) ≡ 1
@@ -204,11 +216,11 @@ module _ (m : ZXMachine) where
 
   pub write-small : (d : Devices) (port v : ℕ) (c : Core) → (4 ≤ clocksIn (portWrite m d port v c)) × (clocksIn (portWrite m d port v c) ≤ 16)
   write-small d port v c =
-      let acts = actedOn m (writeOrder m d port) v in
+      let acts = actedOn m (hearers m d port) v in
       let rest = andThen m (lastPart m port) finalStep in
       let c₁ = coreAfter m (firstPart m port c) c in
       let c₂ = coreAfter m (acts c₁) c₁ in
-      let still = acted-still (writeOrder m d port) v c₁ in
+      let still = acted-still (hearers m d port) v c₁ in
       let sum : clocksIn (portWrite m d port v c) ≡ clocksIn (firstPart m port c) + (0 + (clocksIn (lastPart m port c₂) + 1)) =
       clocks-then m (firstPart m port) (andThen m acts rest) c
       ∙ rw (clocks-then m acts rest c₁, clocks-then m (lastPart m port) finalStep c₂, still .0, final-clock (coreAfter m (lastPart m port c₂) c₂)) in

@@ -2,7 +2,7 @@
 -- Assumes nothing.
 use Prim.Native.Nat.{ℕ, _%_}
 use mathlib.Core.Bool.{Bool, cond}
-use mathlib.Core.List.{List, [], _∷_}
+use mathlib.Core.List.{List, [], _∷_, _++_}
 use Rattle.machine.specs.declared.ZXMachine.{ZXMachine}
 use Rattle.machine.specs.Numbers.{specsOf}
 use Rattle.machine.specs.Timing.{delay}
@@ -14,11 +14,11 @@ use Rattle.memory.specs.Memory.{byteAt}
 use Rattle.ports.specs.declared.Devices.{Devices}
 use Rattle.ports.specs.declared.Answer.{Answer}
 use Rattle.ports.specs.declared.Answer.the-variants as answer
-use Rattle.ports.specs.declared.Written.{Written}
-use Rattle.ports.specs.declared.Written.the-variants as written
 use Rattle.ports.specs.declared.FloatingAddress.{FloatingAddress}
 use Rattle.ports.specs.declared.FloatingAddress.the-variants as floating
-use Rattle.ports.specs.Order.{readOrder, writeOrder, writtenCode}
+use Rattle.ports.specs.Order.{readOrder}
+use Rattle.ports.specs.Hearers as hearer
+use Rattle.ports.specs.Hearers.{Hearer, hearers, heardCode}
 use Rattle.ports.specs.Floating.{floatingPlace, floatingAddress}
 use Rattle.bus.specs.World.{Core}
 use Rattle.bus.specs.Time.{due, Op, step, tick, colour, silent, paged}
@@ -92,23 +92,27 @@ repaged (paging.Taken v) = silent (paged v) ∷ []
 abbrev pub pagingWrite : ZXMachine → ℕ → Part
 pagingWrite m v c = repaged (write7ffd m (c .paging) v)
 
--- what a write does to the bus, by who hears it: the border takes bits 0 to 2; extender and AY are the firmware's
-abbrev pub actedOn : ZXMachine → Written → ℕ → Part
-actedOn m written.Extender v c = []
-actedOn m written.AySelect v c = []
-actedOn m written.AyWrite v c = []
-actedOn m written.Border v c = colour (v % 8) ∷ []
-actedOn m written.Paging v c = pagingWrite m v c
-actedOn m written.Nothing v c = []
+-- what one that hears a write does to the bus: the border takes bits 0 to 2; extender and AY are the firmware's
+abbrev pub acts : ZXMachine → Hearer → ℕ → Part
+acts m hearer.extender v c = []
+acts m hearer.aySelect v c = []
+acts m hearer.ayWrite v c = []
+acts m hearer.border v c = colour (v % 8) ∷ []
+acts m hearer.paging v c = pagingWrite m v c
+
+-- what all that hear it do, in their order: each acts on the core that those before it left
+abbrev pub actedOn : ZXMachine → List Hearer → ℕ → Part
+actedOn m [] v c = []
+actedOn m (h ∷ hs) v c = acts m h v c ++ actedOn m hs v (coreAfter m (acts m h v c) c)
 
 -- "writes act between first and last part"
 abbrev pub portWrite : ZXMachine → Devices → ℕ → ℕ → Part
 portWrite m d port v =
     andThen m (firstPart m port)
-    (andThen m (actedOn m (writeOrder m d port) v)
+    (andThen m (actedOn m (hearers m d port) v)
     (andThen m (lastPart m port) finalStep))
 
--- "Write order, with its code"; whether paging is locked is judged when the write acts
+-- "Write order, with its code": that of those that hear it; whether paging is locked is judged when the write acts
 unfoldable pub writeCode : ZXMachine → Devices → ℕ → ℕ → Core → ℕ
 writeCode m d port v c =
-    writtenCode (writeOrder m d port) (pagedCode (write7ffd m (coreAfter m (firstPart m port c) c .paging) v))
+    heardCode (hearers m d port) (pagedCode (write7ffd m (coreAfter m (firstPart m port c) c .paging) v))
