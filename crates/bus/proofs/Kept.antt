@@ -21,7 +21,7 @@ use Rattle.record.specs.Record.{startRecord, HasRoom}
 use Rattle.record.proofs.Soundness.{sound-facts, start-sound}
 use Rattle.border.specs.Edge.{Edge, inked, inkedAt, finished}
 use Rattle.bus.specs.World.{World, busOf, started}
-use Rattle.bus.specs.Time.{Op, tick, colour, paged, poke, load, unpass, closes, caughtUp, inCore, inScreen, inEdge, does, worldAfter}
+use Rattle.bus.specs.Time.{store, paged, unpass, lasts, Op, step, tick, colour, silent, closes, caughtUp, inCore, inScreen, inEdge, does, worldAfter}
 use Rattle.bus.specs.Turns.{clocksOf, fresh, Part, ranBy}
 use Rattle.bus.proofs.OneStep.{frame-long, closes-at, goes-on-at, core-closed, core-goes, screen-closed, screen-goes, edge-closed, edge-goes, op-moves}
 use Rattle.bus.proofs.Runs.{clocksIn, ran-world}
@@ -33,12 +33,11 @@ SoundWorld m w = Sound (busOf m w)
 
 -- What each operation brings must be in range: "reported border 0..7"; a 7FFD byte, taken on 128K only.
 abbrev pub InRange : ZXMachine → Op → Type 0
-InRange m (tick n) = Unit {0}
+InRange m (step h n) = Unit {0}
 InRange m (colour k) = k < 8
-InRange m (paged v) = (v < 256) × (m ≡ Sinclair128K)
-InRange m (poke i v) = Unit {0}
-InRange m (load p bytes) = Unit {0}
-InRange m unpass = Unit {0}
+InRange m (silent (paged v)) = (v < 256) × (m ≡ Sinclair128K)
+InRange m (silent (store at bytes)) = Unit {0}
+InRange m (silent unpass) = Unit {0}
 
 never-48 : (m : ZXMachine) → m ≡ Sinclair128K → m ≡ Sinclair48K → ⊥
 never-48 m p q = let z : _≡_ {A = ℕ} 0 1 = cc in omega arith
@@ -114,7 +113,7 @@ module _ (m : ZXMachine) where
       (λ f. open-kept place k (w .edge))
 
   -- passed frames' reset keeps all else
-  pub unpass-kept : (w : World) → SoundWorld m w → SoundWorld m (does m unpass w)
+  pub unpass-kept : (w : World) → SoundWorld m w → SoundWorld m (does m (silent unpass) w)
   unfolding inCore inScreen inEdge
   unpass-kept w s =
       record {
@@ -138,7 +137,7 @@ module _ (m : ZXMachine) where
       → (specsOf m .frame ≤ w .core .clock + clocksOf o → w .core .passed + 1 < 2 ^ 32)
       → SoundWorld m (does m o w)
   unfolding clocksOf inCore inScreen inEdge
-  op-kept (tick n) w s r short room = tick-kept n w (closes m n (w .core)) refl s short room
+  op-kept (step h n) w s r short room = tick-kept (lasts h n) w (closes m (lasts h n) (w .core)) refl s short room
   op-kept (colour k) w s r short room =
       let i = ink-kept k w s in
       record {
@@ -154,7 +153,7 @@ module _ (m : ZXMachine) where
         noPairs = i .noPairs;
         unpaged = s .unpaged;
       }
-  op-kept (paged v) w s r short room =
+  op-kept (silent (paged v)) w s r short room =
       record {
         passed = s .passed;
         phase = s .phase;
@@ -168,9 +167,8 @@ module _ (m : ZXMachine) where
         noPairs = s .noPairs;
         unpaged = λ f. absurd (never-48 m (r .1) f);
       }
-  op-kept (poke i v) w s r short room = s
-  op-kept (load p bytes) w s r short room = s
-  op-kept unpass w s r short room = unpass-kept w s
+  op-kept (silent (store at bytes)) w s r short room = s
+  op-kept (silent unpass) w s r short room = unpass-kept w s
 
   -- the same of operations one after the other
   abbrev pub AllInRange : List Op → Type 0
@@ -200,12 +198,11 @@ started-sound m = sound-facts (startRecord m) (start-sound m)
 -- ---- calls
 
 in-range : (m : ZXMachine) (o : Op) → InCall m o → InRange m o
-in-range m (tick n) i = i
+in-range m (step h n) i = i
 in-range m (colour k) i = i
-in-range m (paged v) i = i
-in-range m (poke j v) i = absurd i
-in-range m (load p bytes) i = absurd i
-in-range m unpass i = absurd i
+in-range m (silent (paged v)) i = i
+in-range m (silent (store at bytes)) i = absurd i
+in-range m (silent unpass) i = absurd i
 
 all-in-range : (m : ZXMachine) (os : List Op) → AllInCall m os → AllInRange m os
 all-in-range m [] i = tt

@@ -4,7 +4,8 @@ use mathlib.Core.Path.{_≡_, refl, sym, _∙_, subst}
 use mathlib.Core.Bool.{Bool, true, false}
 use mathlib.Core.List.{List, [], _∷_}
 use Prim.Native.Nat.{ℕ, _+_, _-_, _*_, _≤_}
-use lib.ListN.{length, length-set, length-replicate}
+use lib.ListN.{length, length-replicate}
+use lib.Seq.{length-sets}
 use Rattle.laws.proofs.Cases.{by-bool}
 use Rattle.machine.specs.declared.ZXMachine.{ZXMachine}
 use Rattle.machine.specs.declared.BorderPlace.{BorderPlace}
@@ -15,12 +16,10 @@ use Rattle.paint.proofs.Painting.{length-paint}
 use Rattle.border.specs.Edge.{Edge, inked, inkedAt, finished}
 use Rattle.border.proofs.Fills.{length-filled}
 use Rattle.memory.specs.Memory.{ramPage}
-use Rattle.memory.proofs.Stored.{length-loaded}
 use Rattle.bus.specs.World.{Core, Screen, World, clearRam, clearPicture, clearBorder, started}
-use Rattle.bus.specs.Time.{Look, Op, tick, colour, paged, poke, load, unpass, closes, lookAt, showsA, paintFrom, caughtUp, inCore, inScreen, inEdge, does, worldAfter}
+use Rattle.bus.specs.Time.{Look, Silent, store, paged, unpass, lasts, Op, step, colour, silent, ramLeft, closes, lookAt, showsA, paintFrom, caughtUp, inCore, inScreen, inEdge, does, worldAfter}
 use Rattle.bus.specs.Turns.{fresh, Part, ranBy}
 use Rattle.bus.proofs.Runs.{ran-world}
-use Rattle.bus.proofs.TimedCalls.{InCall, AllInCall, Timed}
 
 -- the lent memory of two worlds has the same lengths
 pub record SameLengths (w w′ : World) : Type 0 where
@@ -29,14 +28,10 @@ pub record SameLengths (w w′ : World) : Type 0 where
   pub b : length (w′ .screen .b) ≡ length (w .screen .b)
   pub pixels : length (w′ .edge .pixels) ≡ length (w .edge .pixels)
 
--- a page load brings 16,384 bytes, for a page that lies within RAM; every other operation fits any memory
-abbrev pub Fits : Op → World → Type 0
-Fits (tick n) w = Unit {0}
-Fits (colour k) w = Unit {0}
-Fits (paged v) w = Unit {0}
-Fits (poke i v) w = Unit {0}
-Fits (load p bytes) w = (length bytes ≡ 16384) × (16384 * p + 16384 ≤ length (w .core .ram))
-Fits unpass w = Unit {0}
+ram-length : (o : Silent) (ram : List ℕ) → length (ramLeft o ram) ≡ length ram
+ram-length (store at bytes) ram = length-sets ram at bytes
+ram-length (paged v) ram = refl
+ram-length unpass ram = refl
 
 painted-length : (l : Look) (from : ℕ) (picture : List ℕ) → length (paintFrom l from picture) ≡ length picture
 painted-length l from picture = length-paint (ramPage (l .page) (l .ram)) (l .flash) from (l .at - from) picture
@@ -65,11 +60,11 @@ inked-length place k e =
 
 module _ (m : ZXMachine) where
   -- EVERY OPERATION KEEPS THE LENGTHS.
-  pub lengths-kept : (o : Op) (w : World) → Fits o w → SameLengths w (does m o w)
+  pub lengths-kept : (o : Op) (w : World) → SameLengths w (does m o w)
   unfolding inCore inScreen inEdge
-  lengths-kept (tick n) w f =
-      let t = closes m n (w .core) in
-      let l = lookAt m (w .core .clock + n) (w .core) in
+  lengths-kept (step h n) w =
+      let t = closes m (lasts h n) (w .core) in
+      let l = lookAt m (w .core .clock + lasts h n) (w .core) in
       let p = pictures l (showsA (w .core .phase)) (w .screen) in
       record {
         ram = by-bool (λ (c : Core). length (c .ram) ≡ length (w .core .ram)) t (λ e. refl) (λ e. refl);
@@ -77,45 +72,21 @@ module _ (m : ZXMachine) where
         b = by-bool (λ (s : Screen). length (s .b) ≡ length (w .screen .b)) t (λ e. p .1) (λ e. p .1);
         pixels = by-bool (λ (x : Edge). length (x .pixels) ≡ length (w .edge .pixels)) t (λ e. finished-length (w .edge)) (λ e. refl);
       }
-  lengths-kept (colour k) w f =
+  lengths-kept (colour k) w =
       record { ram = refl; a = refl; b = refl; pixels = inked-length (borderAt (specsOf m) (w .core .clock)) k (w .edge) }
-  lengths-kept (paged v) w f = record { ram = refl; a = refl; b = refl; pixels = refl }
-  lengths-kept (poke i v) w f = record { ram = length-set (w .core .ram) i v; a = refl; b = refl; pixels = refl }
-  lengths-kept (load p bytes) w f =
-      record { ram = length-loaded p bytes (w .core .ram) (f .0) (f .1); a = refl; b = refl; pixels = refl }
-  lengths-kept unpass w f = record { ram = refl; a = refl; b = refl; pixels = refl }
+  lengths-kept (silent o) w = record { ram = ram-length o (w .core .ram); a = refl; b = refl; pixels = refl }
 
-  -- operations that each fit the memory as it is when they come
-  abbrev pub AllFit : List Op → World → Type 0
-  AllFit [] w = Unit {0}
-  AllFit (o ∷ os) w = Fits o w × AllFit os (does m o w)
-
-  pub run-lengths : (os : List Op) (w : World) → AllFit os w → SameLengths w (worldAfter m os w)
+  pub run-lengths : (os : List Op) (w : World) → SameLengths w (worldAfter m os w)
   unfolding worldAfter
-  run-lengths [] w f = record { ram = refl; a = refl; b = refl; pixels = refl }
-  run-lengths (o ∷ os) w f =
-      let x = lengths-kept o w (f .0) in
-      let y = run-lengths os (does m o w) (f .1) in
+  run-lengths [] w = record { ram = refl; a = refl; b = refl; pixels = refl }
+  run-lengths (o ∷ os) w =
+      let x = lengths-kept o w in
+      let y = run-lengths os (does m o w) in
       record { ram = y .ram ∙ x .ram; a = y .a ∙ x .a; b = y .b ∙ x .b; pixels = y .pixels ∙ x .pixels }
 
-  -- the operations of a timed call fit any memory
-  call-fits : (o : Op) (w : World) → InCall m o → Fits o w
-  call-fits (tick n) w i = tt
-  call-fits (colour k) w i = tt
-  call-fits (paged v) w i = tt
-  call-fits (poke j v) w i = absurd i
-  call-fits (load p bytes) w i = absurd i
-  call-fits unpass w i = absurd i
-
-  all-fit : (os : List Op) (w : World) → AllInCall m os → AllFit os w
-  all-fit [] w i = tt
-  all-fit (o ∷ os) w i = (call-fits o w (i .0), all-fit os (does m o w) (i .1))
-
-  -- EVERY CALL KEEPS THE LENGTHS (TimedCalls has the four as timed parts).
-  pub call-lengths : (f : Part) → Timed m f → (w : World) → SameLengths w (ranBy f (fresh m w) .world)
-  call-lengths f t w =
-      subst (SameLengths w) (sym (ran-world (f (w .core)) (fresh m w)))
-      (run-lengths (f (w .core)) w (all-fit (f (w .core)) w (t .inCall (w .core))))
+  -- EVERY CALL KEEPS THE LENGTHS.
+  pub call-lengths : (f : Part) (w : World) → SameLengths w (ranBy f (fresh m w) .world)
+  call-lengths f w = subst (SameLengths w) (sym (ran-world (f (w .core)) (fresh m w))) (run-lengths (f (w .core)) w)
 
 -- A start's memory has the lengths that document 01 states: the machine's RAM, two pictures of 49,152 bytes, a border of 76,800.
 pub record Whole (m : ZXMachine) (w : World) : Type 0 where

@@ -19,11 +19,11 @@ use Rattle.memory.specs.Paging.{shownPage}
 use Rattle.memory.specs.Memory.{ramPage}
 use Rattle.border.specs.Edge.{Edge}
 use Rattle.bus.specs.World.{Core, Screen, World}
-use Rattle.bus.specs.Time.{Look, tick, closes, flashOn, lookAt, showsA, caughtUp, rewound, wrapped, inCore, inScreen, inEdge, does}
+use Rattle.bus.specs.Time.{Look, due, step, tick, closes, flashOn, lookAt, showsA, caughtUp, rewound, wrapped, inCore, inScreen, inEdge, does}
 use Rattle.bus.specs.Turns.{clocksOf, blocksOf, closedBy, Turn, turned, ran, fresh, ranBy}
 use Rattle.bus.specs.Calls.{contended, plainWait, delayed, addressWait}
 use Rattle.bus.specs.Clocks.{dueAt}
-use Rattle.bus.proofs.OneStep.{goes-on-at, goes-on-if, closes-if, core-goes, core-closed, screen-goes, screen-closed, edge-goes}
+use Rattle.bus.proofs.OneStep.{goes-on-at, goes-on-if, closes-if, core-goes, core-closed, screen-goes, screen-closed, edge-goes, whole-step}
 use Rattle.bus.proofs.Runs.{ran-then, clocks-add, blocks-add, closed-add}
 use Rattle.bus.proofs.Kept.{SoundWorld}
 use Rattle.bus.proofs.Closing.{left-over}
@@ -242,10 +242,11 @@ module _ (m : ZXMachine) (a b : ℕ) (w : World) where
 module _ (t : Turn) (addr n : ℕ) (inside : t .world .core .clock < specsOf (t .machine) .frame)
     (behind : t .world .screen .painted ≤ blockPosition (specsOf (t .machine)) (t .world .core .clock)) where
   either-way : (x : Bool) (d : ℕ) → d ≡ delay (specsOf (t .machine)) (t .world .core .clock)
-      → ran (tick n ∷ []) (ran (cond x (tick (d + 0) ∷ []) []) t) ≡ ran (tick (cond x d 0 + n) ∷ []) t
+      → ran (tick n ∷ []) (ran (cond x (step (due d) 0 ∷ []) []) t) ≡ ran (tick (cond x d 0 + n) ∷ []) t
   unfolding ran
   either-way true d e =
-      rw add-zero (steps-merge d n t (omega (arith, delay-inside (specsOf (t .machine)) (regular (t .machine)) (t .world .core .clock) inside)) behind)
+      ap (λ (u : Turn). turned (tick n) u) (whole-step (due d) 0 t)
+      ∙ rw add-zero (steps-merge d n t (omega (arith, delay-inside (specsOf (t .machine)) (regular (t .machine)) (t .world .core .clock) inside)) behind)
   either-way false d e = rw zero-add
 
   -- A WAIT AT AN ADDRESS, the delay and then n clocks, is one plain wait of both.

@@ -10,7 +10,8 @@ use Rattle.machine.specs.declared.ZXMachine.{ZXMachine}
 use Rattle.machine.specs.Numbers.{specsOf}
 use Rattle.ports.specs.declared.Answer.the-variants as answer
 use Rattle.ports.specs.declared.Devices.{Devices}
-use Rattle.ports.specs.Order.{readOrder, writeOrder}
+use Rattle.ports.specs.Order.{readOrder}
+use Rattle.ports.specs.Hearers.{hearers}
 use Rattle.ports.specs.Floating.{floatingPlace, floatingAddress}
 use Rattle.bus.specs.World.{Core}
 use Rattle.bus.specs.Time.{Op, tick, inCore}
@@ -52,6 +53,6 @@ module _ (m : ZXMachine) where
     -- THE WRITE'S MOMENT: the steps of the first part, then what the write does, then the steps of the last part and the final one.
     pub write-moment : (d : Devices) (v : ℕ) → let c₁ = coreAfter m (firstPart m port c) c in
         portWrite m d port v c
-        ≡ firstPart m port c ++ (actedOn m (writeOrder m d port) v c₁ ++ andThen m (lastPart m port) finalStep (coreAfter m (actedOn m (writeOrder m d port) v c₁) c₁))
+        ≡ firstPart m port c ++ (actedOn m (hearers m d port) v c₁ ++ andThen m (lastPart m port) finalStep (coreAfter m (actedOn m (hearers m d port) v c₁) c₁))
     unfolding andThen
     write-moment d v = refl

@@ -12,8 +12,8 @@ use Rattle.machine.specs.declared.ZXMachine.the-variants.{Sinclair48K, Sinclair
 use Rattle.machine.specs.Numbers.{specsOf}
 use Rattle.border.specs.Edge.{Edge, finished}
 use Rattle.bus.specs.World.{Core, Screen}
-use Rattle.bus.specs.Time.{Op, tick, colour, paged, poke, load, unpass, closes, lookAt, showsA, caughtUp, rewound, wentOn, wrapped, inCore, inScreen, inEdge}
-use Rattle.bus.specs.Turns.{clocksOf}
+use Rattle.bus.specs.Time.{Silent, store, paged, unpass, Hold, lasts, Op, step, tick, colour, silent, passedLeft, closes, lookAt, showsA, caughtUp, rewound, wentOn, wrapped, inCore, inScreen, inEdge}
+use Rattle.bus.specs.Turns.{clocksOf, blocksOf, closedBy, Turn, turned}
 
 -- The longest step of a call, a wait of 65,535 clocks and the delay before it, is shorter than either machine's frame.
 pub frame-long : (m : ZXMachine) → 65541 < specsOf m .frame
@@ -60,6 +60,11 @@ module _ (m : ZXMachine) (n : ℕ) (c : Core) where
   unfolding inEdge
   edge-goes x e = rw e
 
+-- Nothing but how long a step is has a say in what it leaves and reports: what of it is delay only the totals of delays tell.
+pub whole-step : (h : Hold) (n : ℕ) (t : Turn) → turned (step h n) t ≡ turned (tick (lasts h n)) t
+unfolding turned inCore inScreen inEdge clocksOf blocksOf closedBy
+whole-step h n t = refl
+
 -- Where an operation leaves the clock: on by its clocks, with no more passed frames, or past the frame's end and one frame back.
 module _ (m : ZXMachine) where
   abbrev pub OnOrOver : Op → Core → Core → Type 0
@@ -74,11 +79,13 @@ module _ (m : ZXMachine) where
       inr (h, rw (core-closed m n c e) (omega arith))
   step-moves n c false e = inl (rw (core-goes m n c e) (refl, omega arith))
 
+  fewer-passed : (o : Silent) (passed : ℕ) → passedLeft o passed ≤ passed
+  fewer-passed (store at bytes) passed = omega arith
+  fewer-passed (paged v) passed = omega arith
+  fewer-passed unpass passed = omega arith
+
   pub op-moves : (o : Op) (c : Core) → OnOrOver o c (inCore m o c)
   unfolding clocksOf inCore
-  op-moves (tick n) c = step-moves n c (closes m n c) refl
+  op-moves (step h n) c = step-moves (lasts h n) c (closes m (lasts h n) c) refl
   op-moves (colour k) c = inl (omega arith, omega arith)
-  op-moves (paged v) c = inl (omega arith, omega arith)
-  op-moves (poke i v) c = inl (omega arith, omega arith)
-  op-moves (load p bytes) c = inl (omega arith, omega arith)
-  op-moves unpass c = inl (omega arith, omega arith)
+  op-moves (silent o) c = inl (omega arith, fewer-passed o (c .passed))

@@ -23,18 +23,18 @@ use Rattle.memory.specs.declared.Paged.the-variants as paging
 use Rattle.memory.specs.Paging.{addrContended, write7ffd}
 use Rattle.memory.proofs.Agree.{agree-held}
 use Rattle.ports.specs.declared.Devices.{Devices}
-use Rattle.ports.specs.declared.Written.{Written}
-use Rattle.ports.specs.declared.Written.the-variants as written
-use Rattle.ports.specs.Order.{claims, has7ffd, classC000, class8000, evenPort, pagingPort, portOrder, writeOrder}
+use Rattle.ports.specs.Order.{claims, has7ffd, classC000, class8000, evenPort, pagingPort}
+use Rattle.ports.specs.Hearers as hearer
+use Rattle.ports.specs.Hearers.{Hearer, portHearers, hearers}
 use Rattle.ports.specs.Pages.{isSet}
 use Rattle.ports.proofs.Agree.{read-pages}
 use Rattle.bus.specs.World.{Core, World}
-use Rattle.bus.specs.Time.{tick, closes, inCore}
-use Rattle.bus.specs.Turns.{clocksOf, coreAfter, fresh, andThen, ranBy}
+use Rattle.bus.specs.Time.{Hold, free, due, lasts, step, closes, inCore}
+use Rattle.bus.specs.Turns.{clocksOf, coreAfter, fresh, Part, andThen, ranBy}
 use Rattle.bus.specs.Calls.{contended, delayed, addressWait, firstPart, lastPart, finalStep, readBefore, portRead, repaged, actedOn, portWrite}
 use Rattle.bus.specs.Pages.{Cycle, C, N, highByteHeld, rowOf, takes, inFrame, endOf, takeAll, pagePort, memoryCycle}
 use Rattle.bus.proofs.OneStep.{frame-long}
-use Rattle.bus.proofs.Runs.{clocksIn, clocks-then, fresh-clocks}
+use Rattle.bus.proofs.Runs.{acts-alone, clocksIn, clocks-then, fresh-clocks}
 use Rattle.bus.proofs.PortClocks.{acted-still, final-clock}
 
 -- ---- the pages' clock
@@ -56,8 +56,8 @@ module _ (m : ZXMachine) where
   unfolding inFrame anew
   in-frame t = rw (same m .frame)
 
-  due : (t : ℕ) → pageDelay (pageOf m) t ≡ delay (specsOf m) t
-  due t = agree-delay (pageOf m) (specsOf m) (same m) t
+  same-due : (t : ℕ) → pageDelay (pageOf m) t ≡ delay (specsOf m) t
+  same-due t = agree-delay (pageOf m) (specsOf m) (same m) t
 
   -- What is left of a call past the frame's end has no delay, counted anew or on: so the two readings of the pages there are one.
   pub past-end : (t : ℕ) → t < specsOf m .frame + specsOf m .contention → pageDelay (pageOf m) (inFrame (pageOf m) t) ≡ pageDelay (pageOf m) t
@@ -65,27 +65,28 @@ module _ (m : ZXMachine) where
   past-end t h =
       let s = specsOf m in
       let g = regular m .heldInFrame in
-      rw (due t, in-frame t)
+      rw (same-due t, in-frame t)
       (split (s .frame) t
       (λ k.
       let before = lt-ltb (t - s .frame) (s .contention) (omega arith) in
       let begun = le-ltb t (s .contention) (omega arith) in
       let over = le-leb (s .contention + 192 * s .line) t (omega arith) in
-      rw (le-ltb t (s .frame) k, due (t - s .frame)) (simp (before, begun, over)))
-      (λ k. rw (lt-ltb t (s .frame) k) (due t)))
+      rw (le-ltb t (s .frame) k, same-due (t - s .frame)) (simp (before, begun, over)))
+      (λ k. rw (lt-ltb t (s .frame) k) (same-due t)))
 
   -- a step moves the core's clock as the pages count
-  step-clock : (n : ℕ) (c : Core) → inCore m (tick n) c .clock ≡ anew (specsOf m .frame) (c .clock + n)
+  step-clock : (k : Hold) (n : ℕ) (c : Core) → inCore m (step k n) c .clock ≡ anew (specsOf m .frame) (c .clock + lasts k n)
   unfolding inCore anew
-  step-clock n c =
-      split (specsOf m .frame) (c .clock + n)
-      (λ h. rw (le-leb (specsOf m .frame) (c .clock + n) h, le-ltb (c .clock + n) (specsOf m .frame) h))
-      (λ h. rw (lt-leb (specsOf m .frame) (c .clock + n) h, lt-ltb (c .clock + n) (specsOf m .frame) h))
+  step-clock k n c =
+      let x = c .clock + lasts k n in
+      split (specsOf m .frame) x
+      (λ h. rw (le-leb (specsOf m .frame) x h, le-ltb x (specsOf m .frame) h))
+      (λ h. rw (lt-leb (specsOf m .frame) x h, lt-ltb x (specsOf m .frame) h))
 
   -- and leaves the paging alone
-  step-paging : (n : ℕ) (c : Core) → inCore m (tick n) c .paging ≡ c .paging
+  step-paging : (k : Hold) (n : ℕ) (c : Core) → inCore m (step k n) c .paging ≡ c .paging
   unfolding inCore
-  step-paging n c = by-bool (λ (r : Core). r .paging ≡ c .paging) (closes m n c) (λ e. refl) (λ e. refl)
+  step-paging k n c = by-bool (λ (r : Core). r .paging ≡ c .paging) (closes m (lasts k n) c) (λ e. refl) (λ e. refl)
 
 -- ---- a row by its first cycle and the rest, which are a call's two parts
 
@@ -120,39 +121,39 @@ module _ (m : ZXMachine) (port : ℕ) where
   first-is c true h e =
       let s = specsOf m in
       let d = delay s (c .clock) in
-      let c₁ = inCore m (tick (d + 0)) c in
+      let c₁ = inCore m (step (due d) 0) c in
       let small : d + 0 + 1 < s .frame = omega (arith, delay-small s (c .clock), frame-long m) in
       let one : d + 0 + 1 ≡ d + 1 = omega arith in
       record {
-        clocks = rw (e, due m (c .clock)) (omega arith);
+        clocks = rw (e, same-due m (c .clock)) (omega arith);
         clock =
-            rw (e, due m (c .clock), in-frame m (c .clock + (d + 1)))
-            (step-clock m 1 c₁ ∙ rw (step-clock m (d + 0) c, anew-twice (s .frame) (c .clock) (d + 0) 1 h small, one));
-        paging = rw e (step-paging m 1 c₁ ∙ step-paging m (d + 0) c);
+            rw (e, same-due m (c .clock), in-frame m (c .clock + (d + 1)))
+            (step-clock m free 1 c₁ ∙ rw (step-clock m (due d) 0 c, anew-twice (s .frame) (c .clock) (d + 0) 1 h small, one));
+        paging = rw e (step-paging m free 1 c₁ ∙ step-paging m (due d) 0 c);
       }
   first-is c false h e =
       record {
         clocks = rw e (omega arith);
-        clock = rw (e, in-frame m (c .clock + 1)) (step-clock m 1 c);
-        paging = rw e (step-paging m 1 c);
+        clock = rw (e, in-frame m (c .clock + 1)) (step-clock m free 1 c);
+        paging = rw e (step-paging m free 1 c);
       }
 
   -- a held step is a cycle, and leaves the clock where the cycle ends
-  cycle-end : (n : ℕ) (c : Core) → inCore m (tick (delay (specsOf m) (c .clock) + n)) c .clock ≡ endOf (pageOf m) (C n) (c .clock)
+  cycle-end : (n : ℕ) (c : Core) → inCore m (step (due (delay (specsOf m) (c .clock))) n) c .clock ≡ endOf (pageOf m) (C n) (c .clock)
   cycle-end n c =
-      rw (due m (c .clock), in-frame m (c .clock + (delay (specsOf m) (c .clock) + n))) (step-clock m (delay (specsOf m) (c .clock) + n) c)
+      rw (same-due m (c .clock), in-frame m (c .clock + (delay (specsOf m) (c .clock) + n))) (step-clock m (due (delay (specsOf m) (c .clock))) n c)
 
   -- the last part and the final step
   last-is : (c : Core) (held reset : Bool) → contended m port c ≡ held → portContended m port ≡ reset
       → clocksIn (lastPart m port c) + 1 ≡ takeAll (pageOf m) (restOf held reset) (c .clock)
   unfolding lastPart andThen clocksIn clocksOf coreAfter takeAll
-  last-is c true true e f = rw (f, due m (c .clock)) (omega arith)
-  last-is c false true e f = rw (f, due m (c .clock)) (omega arith)
+  last-is c true true e f = rw (f, same-due m (c .clock)) (omega arith)
+  last-is c false true e f = rw (f, same-due m (c .clock)) (omega arith)
   last-is c true false e f =
       let s = specsOf m in
-      let c₁ = inCore m (tick (delay s (c .clock) + 1)) c in
-      let c₂ = inCore m (tick (delay s (c₁ .clock) + 1)) c₁ in
-      rw (f, e, ← cycle-end 1 c, ← cycle-end 1 c₁, due m (c .clock), due m (c₁ .clock), due m (c₂ .clock)) (omega arith)
+      let c₁ = inCore m (step (due (delay s (c .clock))) 1) c in
+      let c₂ = inCore m (step (due (delay s (c₁ .clock))) 1) c₁ in
+      rw (f, e, ← cycle-end 1 c, ← cycle-end 1 c₁, same-due m (c .clock), same-due m (c₁ .clock), same-due m (c₂ .clock)) (omega arith)
   last-is c false false e f = rw (f, e)
 
   -- both parts, where nothing between them moves the clock or changes whether the port is contended as an address
@@ -184,9 +185,9 @@ paging-low port h e =
     not-true false q = refl
 
 module _ (m : ZXMachine) (port v : ℕ) (h : port < 65536) (c : Core) where
-  -- what an operation of the write leaves of the port as an address
-  abbrev Stays : Written → Type 0
-  Stays w = contended m port (coreAfter m (actedOn m w v c) c) ≡ contended m port c
+  -- what the acts of the write leave of the port as an address
+  abbrev Stays : List Hearer → Type 0
+  Stays hs = contended m port (coreAfter m (actedOn m hs v c) c) ≡ contended m port c
 
   repaged-stays : port < 0x8000 → (q : Paged) → contended m port (coreAfter m (repaged q) c) ≡ contended m port c
   unfolding coreAfter inCore
@@ -194,15 +195,19 @@ module _ (m : ZXMachine) (port v : ℕ) (h : port < 65536) (c : Core) where
   repaged-stays k paging.Locked = refl
   repaged-stays k (paging.Taken b) = low-held m b (c .paging) port k
 
-  acted-stays : (d : Devices) → Stays (writeOrder m d port)
-  unfolding portOrder coreAfter inCore
+  latch-stays : port < 0x8000 → Stays (hearer.paging ∷ [])
+  latch-stays k =
+      ap (λ (f : Part). contended m port (coreAfter m (f c) c)) (acts-alone m hearer.paging v) ∙ repaged-stays k (write7ffd m (c .paging) v)
+
+  acted-stays : (d : Devices) → Stays (hearers m d port)
+  unfolding portHearers coreAfter inCore
   acted-stays d =
       by-bool Stays (claims (d .extender)) (λ e. refl)
       (λ e. by-bool Stays (classC000 port) (λ e. refl)
       (λ e. by-bool Stays (class8000 port) (λ e. refl)
       (λ e. by-bool Stays (evenPort port) (λ e. refl)
       (λ e. by-bool Stays (pagingPort port && has7ffd m)
-      (λ e. repaged-stays (paging-low port h (and-left (pagingPort port) (has7ffd m) e)) (write7ffd m (c .paging) v))
+      (λ e. latch-stays (paging-low port h (and-left (pagingPort port) (has7ffd m) e)))
       (λ e. refl)))))
 
 -- ---- the theorems
@@ -226,11 +231,11 @@ module _ (m : ZXMachine) (port : ℕ) (h : port < 65536) where
   write-is : (d : Devices) (v : ℕ) (c : Core) → c .clock < specsOf m .frame
       → clocksIn (portWrite m d port v c) ≡ pagePort m (c .paging) port (c .clock)
   write-is d v c k =
-      let acts = actedOn m (writeOrder m d port) v in
+      let acts = actedOn m (hearers m d port) v in
       let rest = andThen m (lastPart m port) finalStep in
       let c₁ = coreAfter m (firstPart m port c) c in
       let c₂ = coreAfter m (acts c₁) c₁ in
-      let still = acted-still m (writeOrder m d port) v c₁ in
+      let still = acted-still m (hearers m d port) v c₁ in
       let sum : clocksIn (portWrite m d port v c) ≡ clocksIn (firstPart m port c) + (0 + (clocksIn (lastPart m port c₂) + 1)) =
       clocks-then m (firstPart m port) (andThen m acts rest) c
       ∙ rw (clocks-then m acts rest c₁, clocks-then m (lastPart m port) finalStep c₂, still .0, final-clock m (coreAfter m (lastPart m port c₂) c₂)) in
@@ -252,7 +257,7 @@ module _ (m : ZXMachine) (port : ℕ) (h : port < 65536) where
 wait-is : (m : ZXMachine) (addr n : ℕ) (c : Core) (held : Bool) → contended m addr c ≡ held
     → clocksIn (addressWait m addr n c) ≡ takes (pageOf m) (cond held (C n) (N n)) (c .clock)
 unfolding andThen delayed clocksIn clocksOf
-wait-is m addr n c true e = rw (e, due m (c .clock)) (omega arith)
+wait-is m addr n c true e = rw (e, same-due m (c .clock)) (omega arith)
 wait-is m addr n c false e = rw e (omega arith)
 
 -- A WAIT AT AN ADDRESS REPORTS THE CLOCKS OF THE PAGES' CYCLE, at any clock.

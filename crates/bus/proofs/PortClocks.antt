@@ -22,15 +22,14 @@ use Rattle.memory.specs.declared.Paged.{Paged}
 use Rattle.memory.specs.declared.Paged.the-variants as paging
 use Rattle.memory.specs.Paging.{write7ffd}
 use Rattle.ports.specs.declared.Devices.{Devices}
-use Rattle.ports.specs.declared.Written.{Written}
-use Rattle.ports.specs.declared.Written.the-variants as written
-use Rattle.ports.specs.Order.{writeOrder}
+use Rattle.ports.specs.Hearers as hearer
+use Rattle.ports.specs.Hearers.{Hearer, hearers}
 use Rattle.bus.specs.World.{Core, World}
-use Rattle.bus.specs.Time.{Op, tick, inCore}
+use Rattle.bus.specs.Time.{Hold, free, due, lasts, Op, step, tick, inCore}
 use Rattle.bus.specs.Turns.{clocksOf, turned, ran, coreAfter, fresh, andThen, ranBy}
-use Rattle.bus.specs.Calls.{contended, plainWait, delayed, addressWait, firstPart, lastPart, finalStep, readBefore, portRead, repaged, actedOn, portWrite}
+use Rattle.bus.specs.Calls.{contended, plainWait, delayed, addressWait, firstPart, lastPart, finalStep, readBefore, portRead, repaged, acts, actedOn, portWrite}
 use Rattle.bus.proofs.OneStep.{goes-on-if, core-goes}
-use Rattle.bus.proofs.Runs.{clocksIn, clocks-then, fresh-clocks}
+use Rattle.bus.proofs.Runs.{core-append, clocksIn, clocks-append, clocks-then, fresh-clocks}
 
 -- ---- delays
 
@@ -67,9 +66,9 @@ module _ (s : ZXSpecs) where
     inside : (t - s .contention) % s .line < 128
     ends : d + (t - s .contention) % s .line % 8 ≡ 6
 
-  due : (t : ℕ) → 0 < delay s t → Due t (delay s t)
+  is-due : (t : ℕ) → 0 < delay s t → Due t (delay s t)
   unfolding delay
-  due t =
+  is-due t =
       by-lt (λ (d : ℕ). 0 < d → Due t d) t (s .contention) (λ h p. absurd (omega arith))
       (λ h. by-le (λ (d : ℕ). 0 < d → Due t d) (s .contention + 192 * s .line) t (λ k p. absurd (omega arith))
       (λ k p. let u = held-due ((t - s .contention) % s .line) p in record { from = h; before = k; inside = u .0; ends = u .1 }))
@@ -85,7 +84,7 @@ module _ (s : ZXSpecs) (g : Regular s) where
   -- AFTER A DELAY AND ONE CLOCK NONE IS DUE.
   pub next-free : (t : ℕ) → 0 < delay s t → delay s (t + delay s t + 1) ≡ 0
   next-free t p =
-      let d = due s t p in
+      let d = is-due s t p in
       let w = g .wide in
       let c : t + delay s t + 1 - s .contention ≡ t - s .contention + (delay s t + 1) = omega arith in
       let moved : (t + delay s t + 1 - s .contention) % s .line ≡ (t - s .contention) % s .line + (delay s t + 1) =
@@ -103,7 +102,7 @@ module _ (s : ZXSpecs) (g : Regular s) where
   -- A delay and one clock more end within the frame: the last contended line has clocks to spare.
   pub due-inside : (t : ℕ) → 0 < delay s t → t + delay s t + 1 < s .frame
   due-inside t p =
-      let d = due s t p in
+      let d = is-due s t p in
       let c = t - s .contention in
       let l = s .line in
       let w = g .wide in
@@ -116,8 +115,9 @@ module _ (s : ZXSpecs) (g : Regular s) where
 
 module _ (m : ZXMachine) where
   -- a step that stays within the frame
-  stays : (n : ℕ) (c : Core) → c .clock + n < specsOf m .frame → inCore m (tick n) c .clock ≡ c .clock + n
-  stays n c h = ap (λ (r : Core). r .clock) (core-goes m n c (goes-on-if m n c h))
+  stays : (h : Hold) (n : ℕ) (c : Core) → c .clock + lasts h n < specsOf m .frame → inCore m (step h n) c .clock ≡ c .clock + lasts h n
+  unfolding inCore
+  stays h n c k = ap (λ (r : Core). r .clock) (core-goes m (lasts h n) c (goes-on-if m (lasts h n) c k))
 
   -- A wait of n clocks at an address takes n clocks, and up to 6 more where its page is contended.
   pub wait-clocks : (addr n : ℕ) (c : Core) → (n ≤ clocksIn (addressWait m addr n c)) × (clocksIn (addressWait m addr n c) ≤ n + 6)
@@ -135,14 +135,14 @@ module _ (m : ZXMachine) where
       let s = specsOf m in
       by-bool (λ (os : List Op). clocksIn (os ++ (tick 1 ∷ [])) + delay s (coreAfter m (os ++ (tick 1 ∷ [])) c .clock) ≤ 7) (contended m port c)
       (λ e.
-      let c₁ = inCore m (tick (delay s (c .clock) + 0)) c in
+      let c₁ = inCore m (step (due (delay s (c .clock))) 0) c in
       omega (
         arith,
         pair-small s (regular m) (c .clock) (inCore m (tick 1) c₁ .clock)
             (λ p.
             let i = due-inside s (regular m) (c .clock) p in
-            let f = stays (delay s (c .clock) + 0) c (omega arith) in
-            let g = stays 1 c₁ (omega arith) in
+            let f = stays (due (delay s (c .clock))) 0 c (omega arith) in
+            let g = stays free 1 c₁ (omega arith) in
             omega arith),
       ))
       (λ e. omega (arith, delay-small s (inCore m (tick 1) c .clock)))
@@ -158,32 +158,45 @@ module _ (m : ZXMachine) where
       by-bool P (portContended m port) (λ e. (omega arith, omega arith))
       (λ e. by-bool P (contended m port c)
       (λ f.
-      let c₁ = inCore m (tick (delay s (c .clock) + 1)) c in
-      let c₂ = inCore m (tick (delay s (c₁ .clock) + 1)) c₁ in
+      let c₁ = inCore m (step (due (delay s (c .clock))) 1) c in
+      let c₂ = inCore m (step (due (delay s (c₁ .clock))) 1) c₁ in
       let two =
       pair-small s (regular m) (c₁ .clock) (c₂ .clock)
       (λ p.
       let i = due-inside s (regular m) (c₁ .clock) p in
-      let g = stays (delay s (c₁ .clock) + 1) c₁ (omega arith) in
+      let g = stays (due (delay s (c₁ .clock))) 1 c₁ (omega arith) in
       omega arith) in
       (omega arith, omega arith))
       (λ f. (omega arith, omega arith)))
 
   -- what a write does between the parts takes no clock
-  repaged-still : (p : Paged) (c : Core) → (clocksIn (repaged p) ≡ 0) × (coreAfter m (repaged p) c .clock ≡ c .clock)
+  abbrev Still : List Op → Core → Type 0
+  Still os c = (clocksIn os ≡ 0) × (coreAfter m os c .clock ≡ c .clock)
+
+  repaged-still : (p : Paged) (c : Core) → Still (repaged p) c
   unfolding clocksIn clocksOf coreAfter inCore
   repaged-still paging.Absent c = (refl, refl)
   repaged-still paging.Locked c = (refl, refl)
   repaged-still (paging.Taken v) c = (refl, refl)
 
-  pub acted-still : (w : Written) (v : ℕ) (c : Core) → (clocksIn (actedOn m w v c) ≡ 0) × (coreAfter m (actedOn m w v c) c .clock ≡ c .clock)
+  acts-still : (h : Hearer) (v : ℕ) (c : Core) → Still (acts m h v c) c
   unfolding clocksIn clocksOf coreAfter inCore
-  acted-still written.Extender v c = (refl, refl)
-  acted-still written.AySelect v c = (refl, refl)
-  acted-still written.AyWrite v c = (refl, refl)
-  acted-still written.Border v c = (refl, refl)
-  acted-still written.Paging v c = repaged-still (write7ffd m (c .paging) v) c
-  acted-still written.Nothing v c = (refl, refl)
+  acts-still hearer.extender v c = (refl, refl)
+  acts-still hearer.aySelect v c = (refl, refl)
+  acts-still hearer.ayWrite v c = (refl, refl)
+  acts-still hearer.border v c = (refl, refl)
+  acts-still hearer.paging v c = repaged-still (write7ffd m (c .paging) v) c
+
+  pub acted-still : (hs : List Hearer) (v : ℕ) (c : Core) → Still (actedOn m hs v c) c
+  unfolding clocksIn coreAfter
+  acted-still [] v c = (refl, refl)
+  acted-still (h ∷ hs) v c =
+      let os = acts m h v c in
+      let c₁ = coreAfter m os c in
+      let ps = actedOn m hs v c₁ in
+      let x = acts-still h v c in
+      let y = acted-still hs v c₁ in
+      (omega (arith, clocks-append os ps, x .0, y .0), ap (λ (r : Core). r .clock) (core-append m os ps c) ∙ y .1 ∙ x .1)
 
   -- the final step
   pub final-clock : (c : Core) → clocksIn (finalStep c) ≡ 1
@@ -203,18 +216,18 @@ module _ (m : ZXMachine) where
 
   pub write-small : (d : Devices) (port v : ℕ) (c : Core) → (4 ≤ clocksIn (portWrite m d port v c)) × (clocksIn (portWrite m d port v c) ≤ 16)
   write-small d port v c =
-      let acts = actedOn m (writeOrder m d port) v in
+      let acts = actedOn m (hearers m d port) v in
       let rest = andThen m (lastPart m port) finalStep in
       let c₁ = coreAfter m (firstPart m port c) c in
       let c₂ = coreAfter m (acts c₁) c₁ in
-      let still = acted-still (writeOrder m d port) v c₁ in
+      let still = acted-still (hearers m d port) v c₁ in
       let sum : clocksIn (portWrite m d port v c) ≡ clocksIn (firstPart m port c) + (0 + (clocksIn (lastPart m port c₂) + 1)) =
       clocks-then m (firstPart m port) (andThen m acts rest) c
       ∙ rw (clocks-then m acts rest c₁, clocks-then m (lastPart m port) finalStep c₂, still .0, final-clock (coreAfter m (lastPart m port c₂) c₂)) in
       let low = wait-clocks port 1 c in
       let first = first-small port c in
       let last = last-small port c₂ in
-      let due = ap (delay (specsOf m)) (still .1) in
+      let same = ap (delay (specsOf m)) (still .1) in
       rw sum (omega arith, omega arith)
 
 -- ---- calls

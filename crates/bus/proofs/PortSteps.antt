@@ -32,11 +32,11 @@ use Rattle.ports.specs.Order.{readOrder}
 use Rattle.ports.specs.Floating.{floatingIn, floatingPlace}
 use Rattle.border.specs.Edge.{Edge, filled, inked, inkedAt, finished}
 use Rattle.bus.specs.World.{Core, World}
-use Rattle.bus.specs.Time.{Op, tick, colour, closes, caughtUp, inCore, inScreen, inEdge, does}
+use Rattle.bus.specs.Time.{due, Op, tick, colour, closes, caughtUp, inCore, inScreen, inEdge, does}
 use Rattle.bus.specs.Turns.{Turn, turned, ran, clocksOf, blocksOf, closedBy, coreAfter, Part, andThen, ranBy}
-use Rattle.bus.specs.Calls.{plainWait, heldStep, firstPart, lastPart, finalStep, readBefore, portRead, floatingByte, floatingBus, answered, readValue}
+use Rattle.bus.specs.Calls.{plainWait, delayStep, firstPart, lastPart, finalStep, readBefore, portRead, floatingByte, floatingBus, answered, readValue}
 use Rattle.bus.specs.Clocks.{firstClocks, heldOnce, heldTwice, heldThrice, lastClocks, partClocks, inkedAtClock, atClock}
-use Rattle.bus.proofs.OneStep.{closes-at, core-closed, core-goes, screen-closed, screen-goes}
+use Rattle.bus.proofs.OneStep.{closes-at, core-closed, core-goes, screen-closed, screen-goes, whole-step}
 use Rattle.bus.proofs.Runs.{ran-machine, ran-core, ran-then}
 use Rattle.bus.proofs.Closing.{step-inside}
 use Rattle.bus.proofs.Merge.{short-merge, address-merge}
@@ -139,12 +139,13 @@ module _ (t : Turn) (inside : t .world .core .clock < specsOf (t .machine) .fram
   next-plain x n few = short-merge x n t behind (omega (arith, early (t .machine) .1))
 
   next-held : (x n : ℕ) → x ≤ 32 → n ≤ 8
-      → ranBy (heldStep (t .machine) n) (turned (tick x) t) ≡ turned (tick (x + (delay (specsOf (t .machine)) (t .world .core .clock + x) + n))) t
+      → ranBy (delayStep (t .machine) n) (turned (tick x) t) ≡ turned (tick (x + (delay (specsOf (t .machine)) (t .world .core .clock + x) + n))) t
   unfolding ran turned
   next-held x n few small =
       let s = specsOf (t .machine) in
       let d = delay-small s (t .world .core .clock + x) in
-      ap (λ (k : ℕ). turned (tick (k + n)) (turned (tick x) t)) (delay-after (t .machine) x (t .world) few inside)
+      whole-step (due (delay s (does (t .machine) (tick x) (t .world) .core .clock))) n (turned (tick x) t)
+      ∙ ap (λ (k : ℕ). turned (tick (k + n)) (turned (tick x) t)) (delay-after (t .machine) x (t .world) few inside)
       ∙ short-merge x (delay s (t .world .core .clock + x) + n) t behind (omega (arith, early (t .machine) .1))
 
   module _ (port : ℕ) where
@@ -157,15 +158,16 @@ module _ (t : Turn) (inside : t .world .core .clock < specsOf (t .machine) .fram
     abbrev held : ℕ
     held = t .world .core .paging
 
-    thrice : ranBy (andThen m (heldStep m 1) (andThen m (heldStep m 1) (heldStep m 0))) t ≡ turned (tick (heldThrice (specsOf m) at)) t
+    thrice : ranBy (andThen m (delayStep m 1) (andThen m (delayStep m 1) (delayStep m 0))) t ≡ turned (tick (heldThrice (specsOf m) at)) t
     unfolding ran heldThrice heldTwice
     thrice =
         let s = specsOf m in
         let d = delay-small s at in
         let e = delay-small s (at + heldOnce s at) in
-        ran-then m (heldStep m 1) (andThen m (heldStep m 1) (heldStep m 0)) t refl
-        ∙ ran-then m (heldStep m 1) (heldStep m 0) (turned (tick (heldOnce s at)) t) (ran-machine (tick (heldOnce s at) ∷ []) t)
-        ∙ ap (λ (u : Turn). ranBy (heldStep m 0) u) (next-held (heldOnce s at) 1 (omega arith) (omega arith))
+        ran-then m (delayStep m 1) (andThen m (delayStep m 1) (delayStep m 0)) t refl
+        ∙ ap (λ (u : Turn). ranBy (andThen m (delayStep m 1) (delayStep m 0)) u) (whole-step (due (delay s at)) 1 t)
+        ∙ ran-then m (delayStep m 1) (delayStep m 0) (turned (tick (heldOnce s at)) t) (ran-machine (tick (heldOnce s at) ∷ []) t)
+        ∙ ap (λ (u : Turn). ranBy (delayStep m 0) u) (next-held (heldOnce s at) 1 (omega arith) (omega arith))
         ∙ next-held (heldOnce s at + heldOnce s (at + heldOnce s at)) 0 (omega arith) (omega arith)
         ∙ rw (add-zero (delay s (at + (heldOnce s at + heldOnce s (at + heldOnce s at)))))
 
@@ -178,7 +180,7 @@ module _ (t : Turn) (inside : t .world .core .clock < specsOf (t .machine) .fram
     -- THE LAST PART is one step,
     pub last-step : ranBy (lastPart m port) t ≡ turned (tick (lastClocks m held port at)) t
     unfolding lastPart lastClocks ran
-    last-step = by-three (portContended m port) (addrContended m held port) _ _ _ _ _ _ refl thrice refl
+    last-step = by-three (portContended m port) (addrContended m held port) _ _ _ _ _ _ (whole-step (due (delay (specsOf m) at)) 2 t) thrice refl
 
     -- the final step with it,
     pub last-final : ranBy (andThen m (lastPart m port) finalStep) t ≡ turned (tick (lastClocks m held port at + 1)) t

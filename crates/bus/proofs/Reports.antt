@@ -15,7 +15,7 @@ use Rattle.machine.proofs.Numbered.{regular}
 use Rattle.machine.proofs.Bounds.{position-small}
 use Rattle.machine.proofs.Rising.{blocks-mono, blocks-at-end}
 use Rattle.bus.specs.World.{World}
-use Rattle.bus.specs.Time.{Op, tick, colour, paged, poke, load, unpass, closes, caughtUp, inCore, inScreen, does, worldAfter}
+use Rattle.bus.specs.Time.{store, paged, unpass, lasts, Op, step, tick, colour, silent, closes, caughtUp, inCore, inScreen, inEdge, does, worldAfter}
 use Rattle.bus.specs.Turns.{clocksOf, blocksOf, closedBy, Turn, fresh, Part, ranBy}
 use Rattle.bus.proofs.OneStep.{frame-long, closes-at, goes-on-at, core-closed, core-goes, screen-closed, screen-goes}
 use Rattle.bus.proofs.Runs.{clocksIn, blocksIn, closedIn, ran-is, fresh-clocks}
@@ -56,13 +56,12 @@ module _ (m : ZXMachine) where
   op-moved : (o : Op) (w : World) → InCall m o → w .core .clock < specsOf m .frame → w .core .clock + clocksOf o < 2 * specsOf m .frame
       → w .screen .painted ≤ blockPosition (specsOf m) (w .core .clock)
       → Moved m w (clocksOf o) (blocksOf m o w) (closedBy m o (w .core)) (does m o w)
-  unfolding clocksOf blocksOf closedBy inCore inScreen
-  op-moved (tick n) w i k short p = step-moved n w (closes m n (w .core)) refl short p
+  unfolding clocksOf blocksOf closedBy inCore inScreen inEdge
+  op-moved (step h n) w i k short p = step-moved (lasts h n) w (closes m (lasts h n) (w .core)) refl short p
   op-moved (colour c) w i k short p = record { inside = k; clock = omega arith; passed = omega arith; painted = omega arith; inPlace = p }
-  op-moved (paged v) w i k short p = record { inside = k; clock = omega arith; passed = omega arith; painted = omega arith; inPlace = p }
-  op-moved (poke j v) w i k short p = absurd i
-  op-moved (load page bytes) w i k short p = absurd i
-  op-moved unpass w i k short p = absurd i
+  op-moved (silent (paged v)) w i k short p = record { inside = k; clock = omega arith; passed = omega arith; painted = omega arith; inPlace = p }
+  op-moved (silent (store at bytes)) w i k short p = absurd i
+  op-moved (silent unpass) w i k short p = absurd i
 
   -- one move and then another: both cannot close a frame, for then two frames' clocks would have been spent
   after : (w w₁ w₂ : World) (c₁ c₂ b₁ b₂ : ℕ) (k₁ k₂ : Bool) → w .core .clock + (c₁ + c₂) < 2 * specsOf m .frame

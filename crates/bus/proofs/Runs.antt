@@ -1,14 +1,16 @@
 -- The laws of operations one after the other: a run of them is taken apart anywhere, and what it reports is a sum that starts anywhere.
 -- Assumes nothing.
-use mathlib.Core.Path.{_≡_, refl, sym, ap, _∙_}
+use mathlib.Core.Path.{_≡_, refl, sym, ap, _∙_, fun-ext}
 use mathlib.Core.Bool.{Bool, true, false, _||_}
-use mathlib.Core.List.{List, [], _∷_, _++_}
+use mathlib.Core.List.{List, [], _∷_, _++_, append-assoc, append-nil}
 use Prim.Native.Nat.{ℕ, _+_}
 use native.Mathlib.Nat.{add-assoc, add-zero, zero-add}
 use Rattle.machine.specs.declared.ZXMachine.{ZXMachine}
+use Rattle.ports.specs.Hearers.{Hearer}
 use Rattle.bus.specs.World.{Core, World}
 use Rattle.bus.specs.Time.{Op, inCore, does, worldAfter}
 use Rattle.bus.specs.Turns.{clocksOf, blocksOf, closedBy, Turn, turned, ran, coreAfter, fresh, Part, andThen, ranBy}
+use Rattle.bus.specs.Calls.{acts, actedOn}
 
 -- ---- a run taken apart
 
@@ -49,6 +51,22 @@ unfolding andThen
 ran-then m f g t e =
     ran-append (f (t .world .core)) (g (coreAfter m (f (t .world .core)) (t .world .core))) t
     ∙ ap (λ (c : Core). ran (g c) (ranBy f t)) (ap (λ (n : ZXMachine). coreAfter n (f (t .world .core)) (t .world .core)) (sym e) ∙ sym (ran-core (f (t .world .core)) t))
+
+-- Where one alone hears a write, what all that hear it do is what that one does.
+pub acts-alone : (m : ZXMachine) (h : Hearer) (v : ℕ) → actedOn m (h ∷ []) v ≡ acts m h v
+acts-alone m h v = fun-ext (λ c. append-nil (acts m h v c))
+
+-- Those that hear a write act one after the other: what some of them and then others do is one part and then another.
+pub acted-then : (m : ZXMachine) (hs ks : List Hearer) (v : ℕ) (c : Core) → actedOn m (hs ++ ks) v c ≡ andThen m (actedOn m hs v) (actedOn m ks v) c
+unfolding andThen coreAfter
+acted-then m [] ks v c = refl
+acted-then m (h ∷ hs) ks v c =
+    let os = acts m h v c in
+    let c₁ = coreAfter m os c in
+    let ps = actedOn m hs v c₁ in
+    ap (λ (qs : List Op). os ++ qs) (acted-then m hs ks v c₁)
+    ∙ sym (append-assoc os ps (actedOn m ks v (coreAfter m ps c₁)))
+    ∙ ap (λ (r : Core). (os ++ ps) ++ actedOn m ks v r) (sym (core-append m os ps c))
 
 -- ---- what a run reports
 

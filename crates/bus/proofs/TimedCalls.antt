@@ -11,24 +11,22 @@ use Rattle.machine.specs.Contended.{portContended}
 use Rattle.memory.specs.declared.Paged.{Paged}
 use Rattle.memory.specs.Paging.{bitSet, write7ffd}
 use Rattle.ports.specs.declared.Devices.{Devices}
-use Rattle.ports.specs.declared.Written.{Written}
-use Rattle.ports.specs.declared.Written.the-variants as written
-use Rattle.ports.specs.Order.{writeOrder}
+use Rattle.ports.specs.Hearers as hearer
+use Rattle.ports.specs.Hearers.{Hearer, hearers}
 use Rattle.bus.specs.World.{Core}
-use Rattle.bus.specs.Time.{Op, tick, colour, paged, poke, load, unpass}
+use Rattle.bus.specs.Time.{store, paged, unpass, Op, step, colour, silent}
 use Rattle.bus.specs.Turns.{clocksOf, coreAfter, Part, andThen}
-use Rattle.bus.specs.Calls.{contended, plainWait, delayed, addressWait, firstPart, lastPart, finalStep, readBefore, portRead, repaged, actedOn, portWrite}
+use Rattle.bus.specs.Calls.{contended, plainWait, delayed, addressWait, firstPart, lastPart, finalStep, readBefore, portRead, repaged, acts, actedOn, portWrite}
 use Rattle.bus.proofs.Runs.{clocksIn}
 use Rattle.bus.proofs.PortClocks.{wait-clocks, read-small, write-small}
 
 -- A timed call steps, writes the border in a colour 0..7, and writes a 7FFD byte, on 128K only; it does nothing else.
 abbrev pub InCall : ZXMachine → Op → Type 0
-InCall m (tick n) = Unit {0}
+InCall m (step h n) = Unit {0}
 InCall m (colour k) = k < 8
-InCall m (paged v) = (v < 256) × (m ≡ Sinclair128K)
-InCall m (poke i v) = ⊥
-InCall m (load p bytes) = ⊥
-InCall m unpass = ⊥
+InCall m (silent (paged v)) = (v < 256) × (m ≡ Sinclair128K)
+InCall m (silent (store at bytes)) = ⊥
+InCall m (silent unpass) = ⊥
 
 abbrev pub AllInCall : ZXMachine → List Op → Type 0
 AllInCall m [] = Unit {0}
@@ -77,18 +75,23 @@ in-repaged Sinclair48K held v h = tt
 in-repaged Sinclair128K held v h = by-bool (λ (p : Paged). AllInCall Sinclair128K (repaged p)) (bitSet 5 held) (λ e. tt) (λ e. ((h, refl), tt))
 
 module _ (m : ZXMachine) where
-  in-acted : (w : Written) (v : ℕ) → v < 256 → In m (actedOn m w v)
-  in-acted written.Extender v h c = tt
-  in-acted written.AySelect v h c = tt
-  in-acted written.AyWrite v h c = tt
-  in-acted written.Border v h c = (omega arith, tt)
-  in-acted written.Paging v h c = in-repaged m (c .paging) v h
-  in-acted written.Nothing v h c = tt
+  in-acts : (x : Hearer) (v : ℕ) → v < 256 → In m (acts m x v)
+  in-acts hearer.extender v h c = tt
+  in-acts hearer.aySelect v h c = tt
+  in-acts hearer.ayWrite v h c = tt
+  in-acts hearer.border v h c = (omega arith, tt)
+  in-acts hearer.paging v h c = in-repaged m (c .paging) v h
+
+  in-acted : (xs : List Hearer) (v : ℕ) → v < 256 → In m (actedOn m xs v)
+  in-acted [] v h c = tt
+  in-acted (x ∷ xs) v h c =
+      let c₁ = coreAfter m (acts m x v c) c in
+      join m (acts m x v c) (actedOn m xs v c₁) (in-acts x v h c) (in-acted xs v h c₁)
 
   in-write : (d : Devices) (port v : ℕ) → v < 256 → In m (portWrite m d port v)
   in-write d port v h =
       both m (firstPart m port) _ (in-wait m port 1)
-      (both m (actedOn m (writeOrder m d port) v) _ (in-acted (writeOrder m d port) v h)
+      (both m (actedOn m (hearers m d port) v) _ (in-acted (hearers m d port) v h)
       (both m (lastPart m port) finalStep (in-last m port) (in-plain m 1)))
 
   plain-brief : (n : ℕ) → n ≤ 65541 → (c : Core) → clocksIn (plainWait n c) ≤ 65541

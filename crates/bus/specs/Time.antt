@@ -4,14 +4,13 @@ use Prim.Native.Nat.{ℕ, _+_, _-_, _*_, _%_}
 use mathlib.Core.Bool.{Bool, true, false, cond, _&&_}
 use mathlib.Core.List.{List, [], _∷_}
 use lib.Dec.{leb, eqb}
-use lib.ListN.{set}
 use Rattle.machine.specs.declared.ZXMachine.{ZXMachine}
 use Rattle.machine.specs.Numbers.{specsOf}
 use Rattle.machine.specs.Timing.{blockPosition, borderAt}
 use Rattle.paint.specs.Paint.{paint}
 use Rattle.border.specs.Edge.{Edge, inked, finished}
 use Rattle.memory.specs.Paging.{shownPage}
-use Rattle.memory.specs.Memory.{ramPage, loaded}
+use Rattle.memory.specs.Memory.{ramPage, stored}
 use Rattle.bus.specs.World.{Core, Screen, World}
 
 -- what a catch-up sees: the position that it reaches, and the bytes, shown page and flash held
@@ -53,15 +52,32 @@ caughtUp l shows-a s =
       b = cond shows-a (paintFrom l (s .painted) (s .b)) (s .b);
     }
 
--- the operations that calls are made of: a step of n clocks, a border write of a colour, a 7FFD write that is taken, a byte of RAM,
--- a page of RAM, and the reset of passed frames
+-- what a step waits out before its own clocks: nothing, where no delay is asked for, or the delay that is due
+pub data Hold : Type 0 where
+  free : Hold
+  due : ℕ → Hold
+
+-- how long a step is: its delay, if any, and its own clocks
+abbrev pub lasts : Hold → ℕ → ℕ
+lasts free n = n
+lasts (due d) n = d + n
+
+-- the operations that take no time and paint nothing: bytes stored in RAM from an offset on, a 7FFD write that is taken, and the reset of
+-- passed frames
+pub data Silent : Type 0 where
+  store : ℕ → List ℕ → Silent
+  paged : ℕ → Silent
+  unpass : Silent
+
+-- the operations that calls are made of: a step, a border write of a colour, and the silent ones
 pub data Op : Type 0 where
-  tick : ℕ → Op
+  step : Hold → ℕ → Op
   colour : ℕ → Op
-  paged : ℕ → Op
-  poke : ℕ → ℕ → Op
-  load : ℕ → List ℕ → Op
-  unpass : Op
+  silent : Silent → Op
+
+-- a step without delay
+abbrev pub tick : ℕ → Op
+tick n = step free n
 
 -- "if the clock is at or past the frame"
 abbrev pub closes : ZXMachine → ℕ → Core → Bool
@@ -84,18 +100,35 @@ wrapped m n c =
       ram = c .ram;
     }
 
+-- what the silent operations leave of passed frames, of the 7FFD byte and of RAM
+abbrev pub passedLeft : Silent → ℕ → ℕ
+passedLeft (store at bytes) passed = passed
+passedLeft (paged v) passed = passed
+passedLeft unpass passed = 0
+
+abbrev pub pagingLeft : Silent → ℕ → ℕ
+pagingLeft (store at bytes) paging = paging
+pagingLeft (paged v) paging = v
+pagingLeft unpass paging = paging
+
+abbrev pub ramLeft : Silent → List ℕ → List ℕ
+ramLeft (store at bytes) ram = stored at bytes ram
+ramLeft (paged v) ram = ram
+ramLeft unpass ram = ram
+
 unfoldable pub inCore : ZXMachine → Op → Core → Core
-inCore m (tick n) c = cond (closes m n c) (wrapped m n c) (wentOn n c)
+inCore m (step h n) c = cond (closes m (lasts h n) c) (wrapped m (lasts h n) c) (wentOn (lasts h n) c)
 inCore m (colour k) c =
     record { clock = c .clock; passed = c .passed; phase = c .phase; paging = c .paging; reported = k; ram = c .ram }
-inCore m (paged v) c =
-    record { clock = c .clock; passed = c .passed; phase = c .phase; paging = v; reported = c .reported; ram = c .ram }
-inCore m (poke i v) c =
-    record { clock = c .clock; passed = c .passed; phase = c .phase; paging = c .paging; reported = c .reported; ram = set (c .ram) i v }
-inCore m (load p bytes) c =
-    record { clock = c .clock; passed = c .passed; phase = c .phase; paging = c .paging; reported = c .reported; ram = loaded p bytes (c .ram) }
-inCore m unpass c =
-    record { clock = c .clock; passed = 0; phase = c .phase; paging = c .paging; reported = c .reported; ram = c .ram }
+inCore m (silent o) c =
+    record {
+      clock = c .clock;
+      passed = passedLeft o (c .passed);
+      phase = c .phase;
+      paging = pagingLeft o (c .paging);
+      reported = c .reported;
+      ram = ramLeft o (c .ram);
+    }
 
 -- "Closing sets painted to 0"
 abbrev pub rewound : Screen → Screen
@@ -103,24 +136,18 @@ rewound s = record { painted = 0; a = s .a; b = s .b }
 
 -- "catches up the screen .. up to the position of the clock before subtraction"
 unfoldable pub inScreen : ZXMachine → Op → Core → Screen → Screen
-inScreen m (tick n) c s =
-    cond (closes m n c)
-    (rewound (caughtUp (lookAt m (c .clock + n) c) (showsA (c .phase)) s))
-    (caughtUp (lookAt m (c .clock + n) c) (showsA (c .phase)) s)
+inScreen m (step h n) c s =
+    cond (closes m (lasts h n) c)
+    (rewound (caughtUp (lookAt m (c .clock + lasts h n) c) (showsA (c .phase)) s))
+    (caughtUp (lookAt m (c .clock + lasts h n) c) (showsA (c .phase)) s)
 inScreen m (colour k) c s = s
-inScreen m (paged v) c s = s
-inScreen m (poke i v) c s = s
-inScreen m (load p bytes) c s = s
-inScreen m unpass c s = s
+inScreen m (silent o) c s = s
 
 -- "Closing .. finishes the border"; a border write goes to the place of the clock
 unfoldable pub inEdge : ZXMachine → Op → Core → Edge → Edge
-inEdge m (tick n) c e = cond (closes m n c) (finished e) e
+inEdge m (step h n) c e = cond (closes m (lasts h n) c) (finished e) e
 inEdge m (colour k) c e = inked (borderAt (specsOf m) (c .clock)) k e
-inEdge m (paged v) c e = e
-inEdge m (poke i v) c e = e
-inEdge m (load p bytes) c e = e
-inEdge m unpass c e = e
+inEdge m (silent o) c e = e
 
 -- THE STEP, and each other operation, on the whole world
 abbrev pub does : ZXMachine → Op → World → World

@@ -7,34 +7,49 @@ use Rattle.machine.specs.declared.ZXMachine.{ZXMachine}
 use Rattle.machine.specs.Numbers.{specsOf}
 use Rattle.machine.specs.Timing.{blockPosition}
 use Rattle.bus.specs.World.{Core, World}
-use Rattle.bus.specs.Time.{Op, tick, colour, paged, poke, load, unpass, closes, inCore, does}
+use Rattle.bus.specs.Time.{Hold, free, due, lasts, Op, step, colour, silent, closes, inCore, does}
 
 -- "clocks (32)": those of its steps
 unfoldable pub clocksOf : Op → ℕ
-clocksOf (tick n) = n
+clocksOf (step h n) = lasts h n
 clocksOf (colour k) = 0
-clocksOf (paged v) = 0
-clocksOf (poke i v) = 0
-clocksOf (load p bytes) = 0
-clocksOf unpass = 0
+clocksOf (silent o) = 0
+
+-- of these the delays, and the steps' own clocks
+abbrev pub delayIn : Hold → ℕ
+delayIn free = 0
+delayIn (due d) = d
+
+unfoldable pub delayOf : Op → ℕ
+delayOf (step h n) = delayIn h
+delayOf (colour k) = 0
+delayOf (silent o) = 0
+
+unfoldable pub ownOf : Op → ℕ
+ownOf (step h n) = n
+ownOf (colour k) = 0
+ownOf (silent o) = 0
+
+-- all the delays of some operations, and all their own clocks
+unfoldable pub delays : List Op → ℕ
+delays [] = 0
+delays (o ∷ os) = delayOf o + delays os
+
+unfoldable pub ownClocks : List Op → ℕ
+ownClocks [] = 0
+ownClocks (o ∷ os) = ownOf o + ownClocks os
 
 -- "blocks painted (16)": the painting steps of its catch-ups, from the painted count up to the position
 unfoldable pub blocksOf : ZXMachine → Op → World → ℕ
-blocksOf m (tick n) w = blockPosition (specsOf m) (w .core .clock + n) - w .screen .painted
+blocksOf m (step h n) w = blockPosition (specsOf m) (w .core .clock + lasts h n) - w .screen .painted
 blocksOf m (colour k) w = 0
-blocksOf m (paged v) w = 0
-blocksOf m (poke i v) w = 0
-blocksOf m (load p bytes) w = 0
-blocksOf m unpass w = 0
+blocksOf m (silent o) w = 0
 
 -- "frame closed 0/1"
 unfoldable pub closedBy : ZXMachine → Op → Core → Bool
-closedBy m (tick n) c = closes m n c
+closedBy m (step h n) c = closes m (lasts h n) c
 closedBy m (colour k) c = false
-closedBy m (paged v) c = false
-closedBy m (poke i v) c = false
-closedBy m (load p bytes) c = false
-closedBy m unpass c = false
+closedBy m (silent o) c = false
 
 -- a call under way: the machine, the world as it stands now, and what the call has to report so far
 pub record Turn : Type 0 where

@@ -17,7 +17,9 @@ use Rattle.ports.specs.declared.Devices.{Devices}
 use Rattle.ports.specs.declared.Answer.{Answer}
 use Rattle.ports.specs.declared.Written.{Written}
 use Rattle.ports.specs.declared.Written.the-variants as written
-use Rattle.ports.specs.Order.{readOrder, writeOrder, writtenCode}
+use Rattle.ports.specs.Order.{readOrder}
+use Rattle.ports.specs.Hearers as hearer
+use Rattle.ports.specs.Hearers.{hearers, heardCode, hearersOf}
 use Rattle.ports.specs.declared.FloatingAddress.{FloatingAddress}
 use Rattle.ports.specs.declared.FloatingPlace.{FloatingPlace}
 use Rattle.ports.specs.Floating.{floatingPlace, floatingAddress}
@@ -26,9 +28,10 @@ use Rattle.border.specs.Edge.{Edge, edgeOf, inked}
 use Rattle.steps.specs.declared.Turning.{Turning}
 use Rattle.bus.specs.World.{Core, Screen}
 use Rattle.bus.specs.Time.{tick, inCore, inScreen, inEdge}
-use Rattle.bus.specs.Turns.{Turn, turned, ran, clocksOf, blocksOf, closedBy, andThen, ranBy}
+use Rattle.bus.specs.Turns.{Turn, turned, ran, clocksOf, blocksOf, closedBy, Part, andThen, ranBy}
 use Rattle.bus.specs.Calls.{plainWait, firstPart, lastPart, finalStep, portRead, floatingByte, floatingBus, answered, readValue, repaged, pagingWrite, actedOn, portWrite, writeCode}
 use Rattle.bus.specs.Clocks.{firstClocks, lastClocks, partClocks, inkedAtClock, atClock}
+use Rattle.bus.proofs.Runs.{acts-alone}
 use Rattle.bus.proofs.PortSteps.{first-small, last-small, step-paging, first-step, last-final, read-step, quiet-step, border-step, read-value}
 use Rattle.steps.specs.Turned.{turnOf, edgeIn, Ready}
 use Rattle.contention.proofs.CodeReady.{ready-less, ready-inked, ready-paging, ready-step}
@@ -228,18 +231,18 @@ module _ (t u : Turn) (port v first : ℕ) (r : Ready t 2 28)
             (follows (pagingWrite (u .machine) v) (λ m. andThen m (lastPart m port) finalStep) u x y acts (last-part y e))
 
 -- a port write by who hears it
-module _ (t : Turn) (d : Devices) (port v : ℕ) (w : Written) (heard : w ≡ writeOrder (t .machine) d port) where
+module _ (t : Turn) (d : Devices) (port v : ℕ) (w : Written) (heard : hearersOf w ≡ hearers (t .machine) d port) where
   by-hearer : (h : Written) → w ≡ h → (u : Turn)
-      → u ≡ ranBy (andThen (t .machine) (firstPart (t .machine) port) (andThen (t .machine) (actedOn (t .machine) h v) (andThen (t .machine) (lastPart (t .machine) port) finalStep))) t
+      → u ≡ ranBy (andThen (t .machine) (firstPart (t .machine) port) (andThen (t .machine) (actedOn (t .machine) (hearersOf h) v) (andThen (t .machine) (lastPart (t .machine) port) finalStep))) t
       → u ≡ ranBy (portWrite (t .machine) d port v) t
   by-hearer h e u p = rw (← heard, e) p
 
   module _ (r : Ready t 2 28) (u : Turn) where
     -- nothing is done to the bus: `none` is `refl` for each such hearer
-    pub quiet-write : (h : Written) → ((c : Core) → actedOn (t .machine) h v c ≡ []) → w ≡ h
+    pub quiet-write : (h : Written) → ((c : Core) → actedOn (t .machine) (hearersOf h) v c ≡ []) → w ≡ h
         → u ≡ turned (tick (partClocks (t .machine) (t .world .core .paging) port (t .world .core .clock) + 1)) t
         → u ≡ ranBy (portWrite (t .machine) d port v) t
-    quiet-write h none e p = by-hearer h e u (p ∙ sym (quiet-step t (r .inFrame) (r .inPlace) port (actedOn (t .machine) h v) none))
+    quiet-write h none e p = by-hearer h e u (p ∙ sym (quiet-step t (r .inFrame) (r .inPlace) port (actedOn (t .machine) (hearersOf h) v) none))
 
     pub border-write : w ≡ written.Border
         → u ≡ turned (tick (partClocks (t .machine) (t .world .core .paging) port (t .world .core .clock) + 1))
@@ -248,10 +251,13 @@ module _ (t : Turn) (d : Devices) (port v : ℕ) (w : Written) (heard : w ≡ wr
     border-write e p = by-hearer written.Border e u (p ∙ sym (border-step t (r .inFrame) (r .inPlace) port (v % 8)))
 
     pub paging-write : w ≡ written.Paging → u ≡ ranBy (pagedWrite (t .machine) port v) t → u ≡ ranBy (portWrite (t .machine) d port v) t
-    paging-write e p = by-hearer written.Paging e u p
+    paging-write e p =
+        by-hearer written.Paging e u
+        (p ∙ ap (λ (f : Part). ranBy (andThen (t .machine) (firstPart (t .machine) port) (andThen (t .machine) f (andThen (t .machine) (lastPart (t .machine) port) finalStep))) t)
+        (sym (acts-alone (t .machine) hearer.paging v)))
 
   -- the code that a hearer other than the paging latch gives
-  pub quiet-code : (h : Written) (k : ℕ) → w ≡ h → ((n : ℕ) → k ≡ writtenCode h n) → k ≡ writeCode (t .machine) d port v (t .world .core)
+  pub quiet-code : (h : Written) (k : ℕ) → w ≡ h → ((n : ℕ) → k ≡ heardCode (hearersOf h) n) → k ≡ writeCode (t .machine) d port v (t .world .core)
   unfolding writeCode
   quiet-code h k e f = rw (← heard, e) (f _)
 

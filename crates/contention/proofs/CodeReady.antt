@@ -22,7 +22,7 @@ use Rattle.paint.proofs.Painting.{length-paint}
 use Rattle.border.specs.Edge.{Edge, inked, inkedAt, finished}
 use Rattle.border.proofs.Fills.{length-filled}
 use Rattle.bus.specs.World.{Screen}
-use Rattle.bus.specs.Time.{Look, tick, paged, caughtUp, inCore, inScreen, inEdge}
+use Rattle.bus.specs.Time.{Look, paged, tick, silent, caughtUp, inCore, inScreen, inEdge}
 use Rattle.bus.specs.Turns.{Turn, turned, ran, clocksOf, blocksOf, ranBy}
 use Rattle.bus.specs.Calls.{repaged, pagingWrite}
 use Rattle.bus.specs.Clocks.{inkedAtClock}
@@ -141,7 +141,7 @@ ready-inked t s c clock k r =
       blocksFit = r .blocksFit;
     }
 
-ready-paged : (t : Turn) (s c v : ℕ) → Ready t s c → Ready (turned (paged v) t) s c
+ready-paged : (t : Turn) (s c v : ℕ) → Ready t s c → Ready (turned (silent (paged v)) t) s c
 unfolding turned inCore inScreen inEdge clocksOf blocksOf
 ready-paged t s c v r =
     record {

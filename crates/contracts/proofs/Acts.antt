@@ -27,13 +27,13 @@ use Rattle.memory.specs.Memory.{placeOf, pokedIn, poked, loaded}
 use Rattle.memory.proofs.Places.{exists-fits}
 use Rattle.ports.specs.Devices.{devicesOf}
 use Rattle.bus.specs.World.{Core, World, busOf, started}
-use Rattle.bus.specs.Time.{Op, paged, poke, load, unpass, inCore, inScreen, inEdge, worldAfter}
+use Rattle.bus.specs.Time.{paged, unpass, Op, silent, inCore, inScreen, inEdge, worldAfter}
 use Rattle.bus.specs.Turns.{clocksOf, Part, ran, fresh, ranBy}
 use Rattle.bus.specs.Calls.{repaged}
-use Rattle.bus.specs.Pokes.{poking}
+use Rattle.bus.specs.Pokes.{poking, pageLoad}
 use Rattle.bus.proofs.Runs.{clocksIn, blocksIn, closedIn, ran-is, ran-world, fresh-blocks}
 use Rattle.bus.proofs.TimedCalls.{Timed, plain-timed, address-timed, read-timed, write-timed}
-use Rattle.bus.proofs.Lengths.{SameLengths, Fits, lengths-kept, call-lengths, started-whole}
+use Rattle.bus.proofs.Lengths.{SameLengths, lengths-kept, call-lengths, started-whole}
 use Rattle.bus.proofs.Kept.{SoundWorld, InRange, op-kept, call-kept}
 use Rattle.bus.proofs.Reports.{call-fits}
 use Rattle.answers.specs.declared.Verdict.{Verdict}
@@ -140,7 +140,7 @@ module _ (m : ZXMachine) (w : World) (sound : SoundWorld m w) (sized : Sized m w
         let timed = part-timed typed in
         record {
           sound = subst (SoundWorld m) same (call-kept m (partOf t m) timed w sound room-left);
-          lengths = subst (SameLengths w) same (call-lengths m (partOf t m) timed w);
+          lengths = subst (SameLengths w) same (call-lengths m (partOf t m) w);
           brief = timed .brief (w .core);
         }
 
@@ -161,12 +161,12 @@ module _ (m : ZXMachine) (w : World) (sound : SoundWorld m w) (sized : Sized m w
   unfolding worldAfter clocksIn
   none-kept = record { sound = sound; lengths = no-lengths; brief = omega arith }
 
-  one-kept : (o : Op) → InRange m o → Fits o w → clocksOf o ≡ 0 → Kept m (o ∷ []) w
+  one-kept : (o : Op) → InRange m o → clocksOf o ≡ 0 → Kept m (o ∷ []) w
   unfolding worldAfter clocksIn
-  one-kept o r f z =
+  one-kept o r z =
       record {
         sound = op-kept m o w sound r (omega (arith, sound .clock)) (λ h. absurd (omega (arith, sound .clock)));
-        lengths = lengths-kept m o w f;
+        lengths = lengths-kept m o w;
         brief = omega arith;
       }
 
@@ -178,7 +178,7 @@ module _ (m : ZXMachine) (w : World) (sound : SoundWorld m w) (sized : Sized m w
   poke-kept : (p : Place) (value : ℕ) → Kept m (poking p value) w
   unfolding clocksOf
   poke-kept (place.Rom at) value = none-kept
-  poke-kept (place.Ram at) value = one-kept (poke at value) tt tt refl
+  poke-kept (place.Ram at) value = one-kept _ tt refl
 
   poke-world : (p : Place) (value : ℕ) → withRam l (pokedIn p (w .core .ram) value) ≡ lentBy m (worldAfter m (poking p value) w)
   unfolding worldAfter inCore inScreen inEdge
@@ -197,13 +197,7 @@ module _ (m : ZXMachine) (w : World) (sound : SoundWorld m w) (sized : Sized m w
         kept = poke-kept p value;
       }
 
-  load-fits : (bytes : List ℕ) (page : ℕ) → NoneHolds (causesOf (loadRam bytes page) l) → (length bytes ≡ pageLength) × (pageLength * page + pageLength ≤ length (w .core .ram))
-  load-fits bytes page h =
-      let fit = each (ramFits (recordOf (l .state)) (length (l .ram))) (eqb (length bytes) pageLength ∷ []) (not-false _ (h .1 .1 .0)) in
-      let there = exists-fits m page (ap (λ (b : Bus). pageExists (b .machine) page) (sym here) ∙ not-false _ (h .1 .1 .1 .0)) in
-      (eqb-true (length bytes) pageLength (fit 1), omega (arith, there, sized .ram))
-
-  load-world : (bytes : List ℕ) (page : ℕ) → withRam l (loaded page bytes (w .core .ram)) ≡ lentBy m (worldAfter m (load page bytes ∷ []) w)
+  load-world : (bytes : List ℕ) (page : ℕ) → withRam l (loaded page bytes (w .core .ram)) ≡ lentBy m (worldAfter m (pageLoad page bytes (w .core)) w)
   unfolding worldAfter inCore inScreen inEdge
   load-world bytes page = refl
 
@@ -215,10 +209,10 @@ module _ (m : ZXMachine) (w : World) (sound : SoundWorld m w) (sized : Sized m w
         slices =
             ap (λ (v : Verdict). withRam l (change new (w .core .ram) v .slice)) (load-ordered (l .state) (length (l .ram)) (length bytes) page .noneAccepts h)
             ∙ load-world bytes page;
-        kept = one-kept (load page bytes) tt (load-fits bytes page h) refl;
+        kept = one-kept _ tt refl;
       }
 
-  reset-world : withState l (recordBytes (withPassed 0 (busOf m w))) ≡ lentBy m (worldAfter m (unpass ∷ []) w)
+  reset-world : withState l (recordBytes (withPassed 0 (busOf m w))) ≡ lentBy m (worldAfter m (silent unpass ∷ []) w)
   unfolding worldAfter inCore inScreen inEdge
   reset-world = refl
 
@@ -228,7 +222,7 @@ module _ (m : ZXMachine) (w : World) (sound : SoundWorld m w) (sized : Sized m w
       let new : Bus → List ℕ = λ bus. recordBytes (withPassed 0 bus) in
       record {
         slices = ap (λ (v : Verdict). withState l (change new (l .state) v .slice)) (state-ordered (l .state) .noneAccepts h ∙ ap Accepted here) ∙ reset-world;
-        kept = one-kept unpass tt tt refl;
+        kept = one-kept (silent unpass) tt refl;
       }
 
   paged-world : (p : Paged) → withState l (recordBytes (withPaging (pagingAfter p (w .core .paging)) (busOf m w))) ≡ lentBy m (worldAfter m (repaged p) w)
@@ -241,7 +235,7 @@ module _ (m : ZXMachine) (w : World) (sound : SoundWorld m w) (sized : Sized m w
   unfolding clocksOf
   paged-kept v h paging.Absent f = none-kept
   paged-kept v h paging.Locked f = none-kept
-  paged-kept v h (paging.Taken u) f = let g = f u refl in one-kept (paged u) (omega (arith, g .0), g .1) tt refl
+  paged-kept v h (paging.Taken u) f = let g = f u refl in one-kept (silent (paged u)) (omega (arith, g .0), g .1) refl
 
   paging-acted : (v : ℕ) (answer : List ℕ) → v < 256 → NoneHolds (causesOf (writePaging v answer) l) → Acted (writePaging v answer)
   unfolding performed opsOf write7ffdCall

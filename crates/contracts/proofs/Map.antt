@@ -29,12 +29,14 @@ use Rattle.ports.specs.declared.Devices.{Devices}
 use Rattle.ports.specs.declared.Written.{Written}
 use Rattle.ports.specs.declared.Written.the-variants as written
 use Rattle.ports.specs.Devices.{devicesOf}
-use Rattle.ports.specs.Order.{writeOrder, writtenCode}
+use Rattle.ports.specs.Hearers as hearer
+use Rattle.ports.specs.Hearers.{Hearer, hearers, heardCode, hearersOf}
+use Rattle.ports.proofs.Hearing.{picked}
 use Rattle.bus.specs.World.{Core, busOf}
 use Rattle.bus.specs.Time.{Op, closes, inCore}
 use Rattle.bus.specs.Turns.{coreAfter, fresh, Part, andThen, ranBy}
-use Rattle.bus.specs.Calls.{contended, plainWait, delayed, addressWait, firstPart, heldStep, lastPart, finalStep, readBefore, portRead, repaged, actedOn, portWrite, writeCode}
-use Rattle.bus.proofs.Runs.{ran-machine, ran-core, core-then}
+use Rattle.bus.specs.Calls.{contended, plainWait, delayed, addressWait, firstPart, delayStep, lastPart, finalStep, readBefore, portRead, repaged, actedOn, portWrite, writeCode}
+use Rattle.bus.proofs.Runs.{ran-machine, ran-core, core-then, acts-alone}
 use Rattle.answers.specs.declared.Verdict.{Verdict}
 use Rattle.answers.specs.declared.Verdict.the-variants.{Refused, Accepted}
 use Rattle.answers.specs.Judges.{judgeState, judgeTold, judgeRead, numberFits, judgeRamPage, judgeBlock}
@@ -247,7 +249,8 @@ module _ (m : ZXMachine) where
   keep-then : (f g : Part) → Keeps f → Keeps g → Keeps (andThen m f g)
   keep-then f g a b c = ap (λ (r : Core). r .paging) (core-then m f g c) ∙ b (coreAfter m (f c) c) ∙ a c
 
-  keep-held : (n : ℕ) → Keeps (heldStep m n)
+  keep-held : (n : ℕ) → Keeps (delayStep m n)
+  unfolding coreAfter inCore
   keep-held n c = keep-step (delay (specsOf m) (c .clock) + n) c
 
   keep-wait : (addr n : ℕ) → Keeps (addressWait m addr n)
@@ -262,7 +265,7 @@ module _ (m : ZXMachine) where
   keep-last port c =
       by-bool (Leaves c) (portContended m port) (λ e. keep-held 2 c)
       (λ e. by-bool (Leaves c) (contended m port c)
-      (λ f. keep-then (heldStep m 1) _ (keep-held 1) (keep-then (heldStep m 1) (heldStep m 0) (keep-held 1) (keep-held 0)) c)
+      (λ f. keep-then (delayStep m 1) _ (keep-held 1) (keep-then (delayStep m 1) (delayStep m 0) (keep-held 1) (keep-held 0)) c)
       (λ f. keep-step 2 c))
 
   keep-read : (port : ℕ) → Keeps (portRead m port)
@@ -278,25 +281,31 @@ module _ (m : ZXMachine) where
   keep-repaged paging.Locked c n = refl
   keep-repaged (paging.Taken v) c n = absurd (n refl)
 
-  keep-acted : (w : Written) (v : ℕ) (c : Core) → (writtenCode w (pagedCode (write7ffd m (c .paging) v)) ≡ renews → ⊥) → Leaves c (actedOn m w v c)
+  keep-acted : (w : Written) (v : ℕ) (c : Core) → (heardCode (hearersOf w) (pagedCode (write7ffd m (c .paging) v)) ≡ renews → ⊥)
+      → Leaves c (actedOn m (hearersOf w) v c)
   unfolding coreAfter inCore
   keep-acted written.Extender v c n = refl
   keep-acted written.AySelect v c n = refl
   keep-acted written.AyWrite v c n = refl
   keep-acted written.Border v c n = refl
-  keep-acted written.Paging v c n = keep-repaged (write7ffd m (c .paging) v) c n
+  keep-acted written.Paging v c n =
+      ap (λ (f : Part). coreAfter m (f c) c .paging) (acts-alone m hearer.paging v) ∙ keep-repaged (write7ffd m (c .paging) v) c n
   keep-acted written.Nothing v c n = refl
+
+  keep-heard : (w : Written) (hs : List Hearer) → hearersOf w ≡ hs → (v : ℕ) (c : Core)
+      → (heardCode hs (pagedCode (write7ffd m (c .paging) v)) ≡ renews → ⊥) → Leaves c (actedOn m hs v c)
+  keep-heard w hs e v c n = rw (← e) (keep-acted w v c (rw (← e) at n))
 
   keep-write : (d : Devices) (port v : ℕ) (c : Core) → (writeCode m d port v c ≡ renews → ⊥) → Leaves c (portWrite m d port v c)
   unfolding writeCode
   keep-write d port v c n =
-      let acts = actedOn m (writeOrder m d port) v in
+      let acts = actedOn m (hearers m d port) v in
       let ends = andThen m (lastPart m port) finalStep in
       let first = coreAfter m (firstPart m port c) c in
       let acted = coreAfter m (acts first) first in
       ap (λ (r : Core). r .paging) (core-then m (firstPart m port) (andThen m acts ends) c ∙ core-then m acts ends first)
       ∙ keep-then (lastPart m port) finalStep (keep-last port) (keep-step 1) acted
-      ∙ keep-acted (writeOrder m d port) v first n
+      ∙ keep-heard (picked m d port .0) (hearers m d port) (picked m d port .1) v first n
       ∙ keep-wait port 1 c
 
 -- ---- call by call

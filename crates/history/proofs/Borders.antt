@@ -19,7 +19,7 @@ use Rattle.machine.proofs.Rising.{border-mono, border-small, border-even, end-i
 use Rattle.border.specs.Edge.{Edge, filled, inkedAt, inked, finished}
 use Rattle.border.proofs.Fills.{length-filled, filled-none, filled-out, filled-in}
 use Rattle.bus.specs.World.{Core}
-use Rattle.bus.specs.Time.{Op, tick, colour, paged, poke, load, unpass, closes, inCore, inEdge}
+use Rattle.bus.specs.Time.{lasts, Op, step, tick, colour, silent, closes, inCore, inEdge}
 use Rattle.bus.proofs.OneStep.{core-closed, core-goes, edge-closed, edge-goes}
 use Rattle.history.specs.Log.{Log, Ink, pixelsCome, noted, lastColour, borderColour, borderOf}
 use Rattle.history.specs.Demand.{paintedTo}
@@ -204,9 +204,6 @@ module _ (m : ZXMachine) where
   pub bordered : (o : Op) (c : Core) (x : Edge) (l : Log) → Bordered m c x l
       → Bordered m (inCore m o c) (inEdge m o c x) (noted m o c l)
   unfolding inCore inEdge noted Wrote
-  bordered (tick n) c x l p = bordered-tick n c x l (closes m n c) refl p
+  bordered (step h n) c x l p = bordered-tick (lasts h n) c x l (closes m (lasts h n) c) refl p
   bordered (colour k) c x l p = inked-by k c x l p (x .blocked) refl
-  bordered (paged v) c x l p = resting c _ x l refl p
-  bordered (poke i v) c x l p = resting c _ x l refl p
-  bordered (load i v) c x l p = resting c _ x l refl p
-  bordered unpass c x l p = resting c _ x l refl p
+  bordered (silent o) c x l p = resting c _ x l refl p

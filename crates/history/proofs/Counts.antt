@@ -11,7 +11,7 @@ use Rattle.machine.specs.declared.ZXMachine.{ZXMachine}
 use Rattle.machine.specs.Numbers.{specsOf}
 use Rattle.record.specs.Record.{flagByte}
 use Rattle.bus.specs.World.{Core}
-use Rattle.bus.specs.Time.{Op, tick, colour, paged, poke, load, unpass, closes, inCore}
+use Rattle.bus.specs.Time.{lasts, Op, step, tick, colour, silent, closes, inCore}
 use Rattle.bus.specs.Turns.{clocksOf, closedBy}
 use Rattle.bus.proofs.OneStep.{frame-long, closes-at, core-closed, core-goes}
 use Rattle.bus.proofs.Runs.{clocksIn, closedIn}
@@ -21,12 +21,9 @@ use Rattle.history.proofs.Operations.{AllSmall, closings}
 -- no operation is longer than all of them
 pub op-small : (o : Op) → clocksOf o ≤ 65541 → Small o
 unfolding clocksOf
-op-small (tick n) h = h
+op-small (step k n) h = h
 op-small (colour k) h = tt
-op-small (paged v) h = tt
-op-small (poke i v) h = tt
-op-small (load p bytes) h = tt
-op-small unpass h = tt
+op-small (silent o) h = tt
 
 pub all-small : (os : List Op) → clocksIn os ≤ 65541 → AllSmall os
 unfolding clocksIn
@@ -41,12 +38,9 @@ module _ (m : ZXMachine) where
 
   pub op-sum : (o : Op) (c : Core) → inCore m o c .clock + specsOf m .frame * count (closedBy m o c) ≡ c .clock + clocksOf o
   unfolding inCore closedBy clocksOf
-  op-sum (tick n) c = tick-sum n c (closes m n c) refl
+  op-sum (step h n) c = tick-sum (lasts h n) c (closes m (lasts h n) c) refl
   op-sum (colour k) c = omega arith
-  op-sum (paged v) c = omega arith
-  op-sum (poke i v) c = omega arith
-  op-sum (load p bytes) c = omega arith
-  op-sum unpass c = omega arith
+  op-sum (silent o) c = omega arith
 
   -- so closings are few where clocks are
   frames-within : (os : List Op) (c : Core) → specsOf m .frame * closings m os c ≤ c .clock + clocksIn os

@@ -16,7 +16,7 @@ use Rattle.machine.proofs.Rising.{border-before}
 use Rattle.ports.specs.declared.Devices.{Devices}
 use Rattle.border.specs.Edge.{Edge, inked, inkedAt, finished}
 use Rattle.bus.specs.World.{Core, World}
-use Rattle.bus.specs.Time.{Op, tick, colour, paged, poke, load, unpass, closes, inCore, inEdge, does, worldAfter}
+use Rattle.bus.specs.Time.{lasts, Op, step, tick, colour, silent, closes, inCore, inEdge, does, worldAfter}
 use Rattle.bus.specs.Turns.{clocksOf, closedBy, coreAfter, Part, andThen}
 use Rattle.bus.specs.Calls.{contended, plainWait, delayed, addressWait, portRead, portWrite}
 use Rattle.bus.proofs.OneStep.{edge-closed, edge-goes}
@@ -61,12 +61,9 @@ module _ (m : ZXMachine) where
   op-open : (o : Op) (w : World) (l : Log) (ss : List Shot) → closedBy m o (w .core) ≡ false
       → (noted m o (w .core) l .done ≡ l .done) × (filmed m o w ss ≡ ss)
   unfolding closedBy noted filmed
-  op-open (tick n) w l ss e = rw e (refl, refl)
+  op-open (step k n) w l ss e = rw e (refl, refl)
   op-open (colour k) w l ss e = (refl, refl)
-  op-open (paged v) w l ss e = (refl, refl)
-  op-open (poke i v) w l ss e = (refl, refl)
-  op-open (load p bytes) w l ss e = (refl, refl)
-  op-open unpass w l ss e = (refl, refl)
+  op-open (silent o) w l ss e = (refl, refl)
 
   pub done-stays : (os : List Op) (w : World) (l : Log) (ss : List Shot) → closings m os (w .core) ≡ 0
       → (follow m os (w .core) l .done ≡ l .done) × (film m os w ss ≡ ss)
@@ -94,13 +91,10 @@ module _ (m : ZXMachine) where
   closed-begins n c e z = rw (edge-closed m n c e z) (refl, refl)
 
   pub op-closes : (o : Op) (c : Core) (e : Edge) → closedBy m o c ≡ true → Unbegun (inEdge m o c e)
-  unfolding closedBy
-  op-closes (tick n) c e z = closed-begins n c e z
+  unfolding closedBy inEdge
+  op-closes (step k n) c e z = closed-begins (lasts k n) c e z
   op-closes (colour k) c e z = absurd (false≢true z)
-  op-closes (paged v) c e z = absurd (false≢true z)
-  op-closes (poke i v) c e z = absurd (false≢true z)
-  op-closes (load p bytes) c e z = absurd (false≢true z)
-  op-closes unpass c e z = absurd (false≢true z)
+  op-closes (silent o) c e z = absurd (false≢true z)
 
   -- and so it stays: over any step,
   step-keeps : (n : ℕ) (c : Core) (e : Edge) (b : Bool) → closes m n c ≡ b → Unbegun e → Unbegun (inEdge m (tick n) c e)
@@ -110,12 +104,9 @@ module _ (m : ZXMachine) where
   -- and over any operation before the first pixel pair's clock
   op-keeps : (o : Op) (c : Core) (e : Edge) → c .clock < specsOf m .border → Unbegun e → Unbegun (inEdge m o c e)
   unfolding inEdge inked inkedAt
-  op-keeps (tick n) c e h u = step-keeps n c e (closes m n c) refl u
+  op-keeps (step k n) c e h u = step-keeps (lasts k n) c e (closes m (lasts k n) c) refl u
   op-keeps (colour k) c e h u = rw (border-before (specsOf m) (c .clock) h, u .0) (refl, refl)
-  op-keeps (paged v) c e h u = u
-  op-keeps (poke i v) c e h u = u
-  op-keeps (load p bytes) c e h u = u
-  op-keeps unpass c e h u = u
+  op-keeps (silent o) c e h u = u
 
   run-keeps : (os : List Op) (w : World) → w .core .clock + clocksIn os < specsOf m .border → Unbegun (w .edge) → Unbegun (worldAfter m os w .edge)
   unfolding clocksIn worldAfter

@@ -14,7 +14,7 @@ use Rattle.machine.proofs.Numbered.{regular}
 use Rattle.machine.proofs.Bounds.{position-small}
 use Rattle.machine.proofs.Rising.{blocks-mono}
 use Rattle.bus.specs.World.{Core, World}
-use Rattle.bus.specs.Time.{Op, tick, colour, paged, poke, load, unpass, closes, inCore, shownPicture, does, worldAfter}
+use Rattle.bus.specs.Time.{lasts, Op, step, tick, colour, silent, closes, inCore, shownPicture, does, worldAfter}
 use Rattle.bus.specs.Turns.{closedBy}
 use Rattle.history.specs.Log.{Log, Frame, Shot, Sight, sightAt, blocksCome, noted, follow, filmed, film, lastAt, reaching, noSight, blockBy, blockIn, newest, AllShow}
 use Rattle.history.proofs.Time.{count, log-closed, log-goes}
@@ -60,22 +60,16 @@ module _ (m : ZXMachine) (first : ℕ) where
       → k < lastAt (l .current .sights)
       → (k < lastAt (noted m o (w .core) l .current .sights)) × (reaching k (noted m o (w .core) l .current .sights) ≡ reaching k (l .current .sights))
   unfolding closedBy noted
-  op-leaves (tick n) k T B F w l ss i e h = step-leaves n k (w .core) l e (next-later m first T B F w l ss i n) h
+  op-leaves (step j n) k T B F w l ss i e h = step-leaves (lasts j n) k (w .core) l e (next-later m first T B F w l ss i (lasts j n)) h
   op-leaves (colour v) k T B F w l ss i e h = (h, refl)
-  op-leaves (paged v) k T B F w l ss i e h = (h, refl)
-  op-leaves (poke j v) k T B F w l ss i e h = (h, refl)
-  op-leaves (load p bytes) k T B F w l ss i e h = (h, refl)
-  op-leaves unpass k T B F w l ss i e h = (h, refl)
+  op-leaves (silent o) k T B F w l ss i e h = (h, refl)
 
   op-completes : (o : Op) (k : ℕ) (c : Core) (l : Log) → closedBy m o c ≡ true → k < lastAt (l .current .sights)
       → reachedIn k (noted m o c l .done) ≡ reaching k (l .current .sights)
-  unfolding closedBy
-  op-completes (tick n) k c l e h = step-completes n k c l e h
+  unfolding closedBy noted
+  op-completes (step j n) k c l e h = step-completes (lasts j n) k c l e h
   op-completes (colour v) k c l e h = absurd (false≢true e)
-  op-completes (paged v) k c l e h = absurd (false≢true e)
-  op-completes (poke j v) k c l e h = absurd (false≢true e)
-  op-completes (load p bytes) k c l e h = absurd (false≢true e)
-  op-completes unpass k c l e h = absurd (false≢true e)
+  op-completes (silent o) k c l e h = absurd (false≢true e)
 
   -- and over any operations that complete the frame
   run-by : (o : Op) (os : List Op) (k : ℕ) (w : World) (l : Log) (ss : List Shot) (b : Bool) → closedBy m o (w .core) ≡ b

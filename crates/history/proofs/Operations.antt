@@ -12,7 +12,7 @@ use Rattle.machine.proofs.Numbered.{regular}
 use Rattle.machine.proofs.Rising.{blocks-mono, blocks-at-end}
 use Rattle.border.specs.Edge.{finished}
 use Rattle.bus.specs.World.{Core, World}
-use Rattle.bus.specs.Time.{Op, tick, colour, paged, poke, load, unpass, closes, inCore, inEdge, does, worldAfter}
+use Rattle.bus.specs.Time.{lasts, Op, step, tick, colour, silent, closes, inCore, inScreen, inEdge, does, worldAfter}
 use Rattle.bus.specs.Turns.{clocksOf, blocksOf, closedBy}
 use Rattle.bus.proofs.OneStep.{closes-at, edge-closed}
 use Rattle.bus.proofs.Runs.{clocksIn, blocksIn}
@@ -52,12 +52,9 @@ colours-tick m first n c l false z h =
 colours-kept : (m : ZXMachine) (first : ℕ) (o : Op) (c : Core) (l : Log) → Chained first (l .current) (l .done)
     → Chained first (noted m o c l .current) (noted m o c l .done)
 unfolding noted
-colours-kept m first (tick n) c l h = colours-tick m first n c l (closes m n c) refl h
+colours-kept m first (step k n) c l h = colours-tick m first (lasts k n) c l (closes m (lasts k n) c) refl h
 colours-kept m first (colour k) c l h = chained-same first (l .current) (noted m (colour k) c l .current) refl (l .done) h
-colours-kept m first (paged v) c l h = h
-colours-kept m first (poke i v) c l h = h
-colours-kept m first (load p s) c l h = h
-colours-kept m first unpass c l h = h
+colours-kept m first (silent o) c l h = h
 
 module _ (m : ZXMachine) (first : ℕ) where
   -- the frame that a step closes is shown
@@ -94,13 +91,10 @@ module _ (m : ZXMachine) (first : ℕ) where
 
   frames-kept : (o : Op) (T B F : ℕ) (w : World) (l : Log) (ss : List Shot) → Inv m first T B F w l ss
       → AllShow (filmed m o w ss) (noted m o (w .core) l .done)
-  unfolding filmed noted
-  frames-kept (tick n) T B F w l ss i = frames-tick n T B F w l ss (closes m n (w .core)) refl i
+  unfolding filmed noted inCore inScreen inEdge
+  frames-kept (step k n) T B F w l ss i = frames-tick (lasts k n) T B F w l ss (closes m (lasts k n) (w .core)) refl i
   frames-kept (colour k) T B F w l ss i = i .frames
-  frames-kept (paged v) T B F w l ss i = i .frames
-  frames-kept (poke j v) T B F w l ss i = i .frames
-  frames-kept (load p s) T B F w l ss i = i .frames
-  frames-kept unpass T B F w l ss i = i .frames
+  frames-kept (silent o) T B F w l ss i = i .frames
 
   -- one operation
   pub op-kept : (o : Op) (T B F : ℕ) (w : World) (l : Log) (ss : List Shot) → Small o → Inv m first T B F w l ss

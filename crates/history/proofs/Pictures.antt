@@ -19,7 +19,7 @@ use Rattle.machine.proofs.Rising.{blocks-mono, blocks-at-end}
 use Rattle.paint.proofs.Painting.{paint-splice, length-blocks}
 use Rattle.memory.specs.Memory.{ramPage}
 use Rattle.bus.specs.World.{Core, Screen, World}
-use Rattle.bus.specs.Time.{Op, tick, colour, paged, poke, load, unpass, Look, paintFrom, showsA, shownPicture, hiddenPicture, caughtUp, closes, wrapped, inCore, rewound, inScreen}
+use Rattle.bus.specs.Time.{lasts, Op, step, tick, colour, silent, Look, paintFrom, showsA, shownPicture, hiddenPicture, caughtUp, closes, wrapped, inCore, rewound, inScreen}
 use Rattle.bus.specs.Turns.{blocksOf}
 use Rattle.bus.proofs.OneStep.{closes-at, goes-on-at, core-closed, core-goes}
 use Rattle.history.specs.Log.{Log, Sight, sightAt, noted, drawn, drawnBy, lastAt, newest, older, Rising}
@@ -175,9 +175,6 @@ module _ (m : ZXMachine) where
   pub painted-kept : (o : Op) (B : ℕ) (w : World) (l : Log) → Painted m B (w .core) (w .screen) l
       → Painted m (B + blocksOf m o w) (inCore m o (w .core)) (inScreen m o (w .core) (w .screen)) (noted m o (w .core) l)
   unfolding blocksOf inCore inScreen noted
-  painted-kept (tick n) B w l p = painted-tick n B (w .core) (w .screen) l (closes m n (w .core)) refl p
+  painted-kept (step k n) B w l p = painted-tick (lasts k n) B (w .core) (w .screen) l (closes m (lasts k n) (w .core)) refl p
   painted-kept (colour k) B w l p = resting B (w .core) _ (w .screen) l _ refl refl refl refl p
-  painted-kept (paged v) B w l p = resting B (w .core) _ (w .screen) l _ refl refl refl refl p
-  painted-kept (poke i v) B w l p = resting B (w .core) _ (w .screen) l _ refl refl refl refl p
-  painted-kept (load i v) B w l p = resting B (w .core) _ (w .screen) l _ refl refl refl refl p
-  painted-kept unpass B w l p = resting B (w .core) _ (w .screen) l _ refl refl refl refl p
+  painted-kept (silent o) B w l p = resting B (w .core) _ (w .screen) l _ refl refl refl refl p

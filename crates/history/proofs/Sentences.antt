@@ -22,7 +22,7 @@ use Rattle.record.proofs.Round.{held-encode}
 use Rattle.paint.proofs.Painting.{paint-out}
 use Rattle.memory.specs.Memory.{ramPage}
 use Rattle.bus.specs.World.{World, busOf}
-use Rattle.bus.specs.Time.{Op, tick, colour, paged, poke, load, unpass, lookAt, showsA, shownPicture, hiddenPicture, caughtUp, closes, inCore, inScreen, does, worldAfter}
+use Rattle.bus.specs.Time.{Hold, lasts, Op, step, tick, colour, silent, lookAt, showsA, shownPicture, hiddenPicture, caughtUp, closes, inCore, inScreen, inEdge, does, worldAfter}
 use Rattle.bus.specs.Turns.{closedBy}
 use Rattle.bus.proofs.OneStep.{core-goes, screen-closed, screen-goes, closes-at}
 use Rattle.bus.proofs.Runs.{clocksIn, blocksIn}
@@ -135,14 +135,11 @@ module _ (m : ZXMachine) where
       ∙ paint-out (ramPage (l .page) (l .ram)) (l .flash) from (l .at - from) (hiddenPicture (w .core) (w .screen)) i out′)
 
   -- Every other operation leaves both pictures as they were.
-  pub pictures-alone : (o : Op) (w : World) → ((n : ℕ) → o ≡ tick n → ⊥) → does m o w .screen ≡ w .screen
+  pub pictures-alone : (o : Op) (w : World) → ((h : Hold) (n : ℕ) → o ≡ step h n → ⊥) → does m o w .screen ≡ w .screen
   unfolding inScreen
-  pictures-alone (tick n) w h = absurd (h n refl)
+  pictures-alone (step k n) w h = absurd (h k n refl)
   pictures-alone (colour k) w h = refl
-  pictures-alone (paged v) w h = refl
-  pictures-alone (poke i v) w h = refl
-  pictures-alone (load p bytes) w h = refl
-  pictures-alone unpass w h = refl
+  pictures-alone (silent o) w h = refl
 
   -- ---- THE DRAWING ON THE WALL: "past its right end a short tail .. One build of our handheld painted the tail into the frame just finished."
 
@@ -155,12 +152,9 @@ module _ (m : ZXMachine) where
   op-shown : (o : Op) (w : World) → closedBy m o (w .core) ≡ false
       → shownPicture (does m o w .core) (does m o w .screen) ≡ shownPicture (w .core) (w .screen)
   unfolding closedBy inCore inScreen
-  op-shown (tick n) w e = shown-by n w e
+  op-shown (step h n) w e = shown-by (lasts h n) w e
   op-shown (colour k) w e = refl
-  op-shown (paged v) w e = refl
-  op-shown (poke i v) w e = refl
-  op-shown (load p bytes) w e = refl
-  op-shown unpass w e = refl
+  op-shown (silent o) w e = refl
 
   -- operations that close no frame leave the shown picture alone
   pub finished-stays : (os : List Op) (w : World) → closings m os (w .core) ≡ 0
@@ -176,37 +170,37 @@ module _ (m : ZXMachine) where
   -- call does after it stands on the right-hand side.
   pub record Wall (os : List Op) (w : World) : Type 0 where
     pub before : List Op
+    pub hold : Hold
     pub n : ℕ
     pub rest : List Op
-    pub parts : os ≡ before ++ tick n ∷ rest
-    pub closes-here : specsOf m .frame ≤ worldAfter m before w .core .clock + n
+    pub parts : os ≡ before ++ step hold n ∷ rest
+    pub closes-here : specsOf m .frame ≤ worldAfter m before w .core .clock + lasts hold n
     pub finished : shownPicture (worldAfter m os w .core) (worldAfter m os w .screen)
         ≡ completed m (worldAfter m before w .core) (worldAfter m before w .screen .painted)
         (hiddenPicture (worldAfter m before w .core) (worldAfter m before w .screen))
 
   wall-here : (o : Op) (os : List Op) (w : World) → closedBy m o (w .core) ≡ true → closings m os (inCore m o (w .core)) ≡ 0 → Wall (o ∷ os) w
-  unfolding worldAfter closedBy
-  wall-here (tick n) os w e z =
-      let h = closes-at m n (w .core) e in
+  unfolding worldAfter closedBy inCore inScreen inEdge
+  wall-here (step k n) os w e z =
+      let h = closes-at m (lasts k n) (w .core) e in
       record {
         before = [];
+        hold = k;
         n = n;
         rest = os;
         parts = refl;
         closes-here = h;
-        finished = finished-stays os (does m (tick n) w) z ∙ closing-shows m n w h;
+        finished = finished-stays os (does m (step k n) w) z ∙ closing-shows m (lasts k n) w h;
       }
   wall-here (colour k) os w e z = absurd (false≢true e)
-  wall-here (paged v) os w e z = absurd (false≢true e)
-  wall-here (poke i v) os w e z = absurd (false≢true e)
-  wall-here (load p bytes) os w e z = absurd (false≢true e)
-  wall-here unpass os w e z = absurd (false≢true e)
+  wall-here (silent o) os w e z = absurd (false≢true e)
 
   wall-later : (o : Op) (os : List Op) (w : World) → Wall os (does m o w) → Wall (o ∷ os) w
   unfolding worldAfter
   wall-later o os w r =
       record {
         before = o ∷ r .before;
+        hold = r .hold;
         n = r .n;
         rest = r .rest;
         parts = ap (λ (xs : List Op). o ∷ xs) (r .parts);
@@ -263,13 +257,13 @@ module _ (m : ZXMachine) (w : World) (fresh : Fresh m w) (cs : List Made) (obeye
       (small-front before rest (subst AllSmall parts (here .small))) (history-stands m w fresh cs obeyed typed again .inv)
 
   -- "and it changes no other byte of a picture": so each step of the call leaves of the hidden picture what is not of the blocks that it paints.
-  pub others-alone : (before rest : List Op) (n : ℕ) → operations m c (world .core) ≡ before ++ tick n ∷ rest
-      → (i : ℕ) → Leaves m n (worldAfter m before world) i
-  others-alone before rest n parts =
+  pub others-alone : (before rest : List Op) (h : Hold) (n : ℕ) → operations m c (world .core) ≡ before ++ step h n ∷ rest
+      → (i : ℕ) → Leaves m (lasts h n) (worldAfter m before world) i
+  others-alone before rest h n parts =
       let v = worldAfter m before world in
-      let p = within-call before (tick n ∷ rest) parts .pictures in
-      leaves-by m n v
-      (omega (arith, p .so-far, blocks-mono (specsOf m) (regular m .wide) (v .core .clock) (v .core .clock + n) (omega arith)))
+      let p = within-call before (step h n ∷ rest) parts .pictures in
+      leaves-by m (lasts h n) v
+      (omega (arith, p .so-far, blocks-mono (specsOf m) (regular m .wide) (v .core .clock) (v .core .clock + lasts h n) (omega arith)))
 
 -- AND AFTER ANY LATER CALLS STILL, until the next closing: calls none of which reports a closed frame leave the completed frames what they were, so that by
 -- `demand3` the part that ulb_shown_picture names holds the same picture.

@@ -8,7 +8,7 @@ use lib.ListN.{length}
 use Rattle.machine.specs.declared.ZXMachine.{ZXMachine}
 use Rattle.machine.specs.Numbers.{specsOf}
 use Rattle.bus.specs.World.{Core}
-use Rattle.bus.specs.Time.{Op, tick, colour, paged, poke, load, unpass, closes, inCore}
+use Rattle.bus.specs.Time.{lasts, Op, step, tick, colour, silent, closes, inCore}
 use Rattle.bus.specs.Turns.{clocksOf, closedBy}
 use Rattle.bus.proofs.OneStep.{frame-long, closes-at, goes-on-at, core-closed, core-goes}
 use Rattle.history.specs.Log.{Log, noted, frameEnds, frameGoesOn}
@@ -25,12 +25,9 @@ module _ (m : ZXMachine) (n : ℕ) (c : Core) where
 
 -- no operation of a call is a step of more than 65,535 + 6 clocks
 abbrev pub Small : Op → Type 0
-Small (tick n) = n ≤ 65541
+Small (step h n) = lasts h n ≤ 65541
 Small (colour k) = Unit {0}
-Small (paged v) = Unit {0}
-Small (poke i v) = Unit {0}
-Small (load p bytes) = Unit {0}
-Small unpass = Unit {0}
+Small (silent o) = Unit {0}
 
 -- a closing counts one
 abbrev pub count : Bool → ℕ
@@ -56,9 +53,6 @@ module _ (m : ZXMachine) where
   pub clocked : (o : Op) (T F : ℕ) (c : Core) (l : Log) → Small o → Clocked m T F c l
       → Clocked m (T + clocksOf o) (F + count (closedBy m o c)) (inCore m o c) (noted m o c l)
   unfolding clocksOf closedBy inCore noted
-  clocked (tick n) T F c l small t = clocked-tick n T F c l small (closes m n c) refl t
+  clocked (step h n) T F c l small t = clocked-tick (lasts h n) T F c l small (closes m (lasts h n) c) refl t
   clocked (colour k) T F c l small t = record { frames = omega arith; inside = t .inside; sum = omega arith }
-  clocked (paged v) T F c l small t = record { frames = omega arith; inside = t .inside; sum = omega arith }
-  clocked (poke i v) T F c l small t = record { frames = omega arith; inside = t .inside; sum = omega arith }
-  clocked (load p bytes) T F c l small t = record { frames = omega arith; inside = t .inside; sum = omega arith }
-  clocked unpass T F c l small t = record { frames = omega arith; inside = t .inside; sum = omega arith }
+  clocked (silent o) T F c l small t = record { frames = omega arith; inside = t .inside; sum = omega arith }

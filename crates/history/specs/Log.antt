@@ -16,7 +16,7 @@ use Rattle.machine.specs.Pages.{passed}
 use Rattle.paint.specs.Paint.{blockAt, blocks}
 use Rattle.memory.specs.Memory.{ramPage}
 use Rattle.bus.specs.World.{Core, World, clearPicture}
-use Rattle.bus.specs.Time.{Op, tick, colour, paged, poke, load, unpass, closes, inCore, does, shownPicture}
+use Rattle.bus.specs.Time.{lasts, Op, step, tick, colour, silent, closes, inCore, does, shownPicture}
 
 -- what a catch-up sees: how many blocks have come, and "the bytes, shown page and flash held"
 pub record Sight : Type 0 where
@@ -88,13 +88,10 @@ frameGoesOn m n c l = record { current = withSight (sightAt m (c .clock + n) c) 
 
 -- what an operation adds to the log
 unfoldable pub noted : ZXMachine → Op → Core → Log → Log
-noted m (tick n) c l = cond (closes m n c) (frameEnds m n c l) (frameGoesOn m n c l)
+noted m (step h n) c l = cond (closes m (lasts h n) c) (frameEnds m (lasts h n) c l) (frameGoesOn m (lasts h n) c l)
 noted m (colour k) c l =
     record { current = withInk (record { at = pixelsCome m (c .clock); colour = k }) (l .current); done = l .done }
-noted m (paged v) c l = l
-noted m (poke i v) c l = l
-noted m (load p bytes) c l = l
-noted m unpass c l = l
+noted m (silent o) c l = l
 
 unfoldable pub follow : ZXMachine → List Op → Core → Log → Log
 follow m [] c l = l
@@ -173,12 +170,9 @@ abbrev pub shotOf : World → Shot
 shotOf w = record { picture = shownPicture (w .core) (w .screen); border = w .edge .pixels }
 
 unfoldable pub filmed : ZXMachine → Op → World → List Shot → List Shot
-filmed m (tick n) w ss = cond (closes m n (w .core)) (shotOf (does m (tick n) w) ∷ ss) ss
+filmed m (step h n) w ss = cond (closes m (lasts h n) (w .core)) (shotOf (does m (step h n) w) ∷ ss) ss
 filmed m (colour k) w ss = ss
-filmed m (paged v) w ss = ss
-filmed m (poke i v) w ss = ss
-filmed m (load p bytes) w ss = ss
-filmed m unpass w ss = ss
+filmed m (silent o) w ss = ss
 
 unfoldable pub film : ZXMachine → List Op → World → List Shot → List Shot
 film m [] w ss = ss

@@ -12,6 +12,7 @@ use Rattle.machine.specs.declared.ZXMachine.{ZXMachine}
 use Rattle.machine.specs.declared.ZXMachine.the-variants.{Sinclair48K, Sinclair128K}
 use Rattle.machine.specs.Numbers.{specsOf}
 use Rattle.memory.specs.Memory.{loaded}
+use Rattle.memory.proofs.Stored.{loaded-cut}
 
 -- no ROM is longer than 32 KiB
 pub rom-small : (m : ZXMachine) → specsOf m .rom ≤ 32768
@@ -30,8 +31,8 @@ module _ (p : ℕ) (ram src ys : List ℕ) (whole : length src ≡ 16384) (fits 
   to = 16384 * p + 16384
 
   pub load-is : ys ≡ take (length src) src ++ drop (length src) (midOf from (to - from) ram) → putMid from (to - from) ram ys ≡ loaded p src ram
-  unfolding loaded
   load-is e =
       let n : length (midOf from (to - from) ram) ≤ length src = omega (arith, mid-len from to ram fits) in
       ap₂ (λ (y z : List ℕ). take from ram ++ (y ++ z)) (e ∙ copied src (midOf from (to - from) ram) n) (post-is from to ram (omega arith))
       ∙ sym (append-assoc (take from ram) src (drop to ram))
+      ∙ sym (loaded-cut p src ram whole fits)

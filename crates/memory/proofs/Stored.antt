@@ -6,7 +6,7 @@ use mathlib.Core.Logic.{_⊎_}
 use mathlib.Core.List.{List, _++_, append-assoc}
 use native.Mathlib.Omega.{arith}
 use lib.ListN.{length, getD, set, take, drop, length-set, length-drop}
-use lib.Seq.{sets, sets-eq, length-sets, length-take-le, getD-set-same, getD-set-other, getD-take, getD-drop, drop-at, take-at, drop-append-le, drop-append-add, take-append-le}
+use lib.Seq.{sets-eq, length-take-le, getD-set-same, getD-set-other, getD-take, getD-drop, drop-at, take-at, drop-append-le, drop-append-add, take-append-le}
 use Rattle.laws.proofs.Stores.{sets-in, sets-out}
 use Rattle.machine.specs.declared.ZXMachine.{ZXMachine}
 use Rattle.machine.specs.Numbers.{specsOf}
@@ -51,28 +51,22 @@ module _ (m : ZXMachine) (paging : ℕ) (ram : List ℕ) (addr value : ℕ) wher
 
 -- ---- page load
 module _ (p : ℕ) (bytes ram : List ℕ) (whole : length bytes ≡ 16384) (fits : 16384 * p + 16384 ≤ length ram) where
-  -- it is the stores of the bytes, one after the other, from the page's start
-  pub loaded-stores : loaded p bytes ram ≡ sets ram (16384 * p) bytes
-  unfolding loaded
-  loaded-stores = sym (sets-eq bytes ram (16384 * p) (rw whole fits) ∙ rw whole)
-
-  -- it keeps RAM's length
-  pub length-loaded : length (loaded p bytes ram) ≡ length ram
-  length-loaded = rw loaded-stores (length-sets ram (16384 * p) bytes)
+  -- the page is cut out of RAM, and what was lent is put in its place
+  pub loaded-cut : loaded p bytes ram ≡ take (16384 * p) ram ++ bytes ++ drop (16384 * p + 16384) ram
+  loaded-cut = sets-eq bytes ram (16384 * p) (rw whole fits) ∙ rw whole
 
   -- byte i of the page is then byte i of what was lent
   pub loaded-in : (i : ℕ) → i < 16384 → getD (loaded p bytes ram) (16384 * p + i) 0 ≡ getD bytes i 0
-  loaded-in i h = rw loaded-stores (sets-in ram (16384 * p) bytes i (omega arith) (omega arith))
+  loaded-in i h = sets-in ram (16384 * p) bytes i (omega arith) (omega arith)
 
   -- every other byte of RAM is as it was
   pub loaded-out : (j : ℕ) → (j < 16384 * p) ⊎ (16384 * p + length bytes ≤ j) → getD (loaded p bytes ram) j 0 ≡ getD ram j 0
-  loaded-out j h = rw loaded-stores (sets-out ram (16384 * p) bytes j h)
+  loaded-out j h = sets-out ram (16384 * p) bytes j h
 
   -- the page handed out after a load is what was lent
   pub loaded-page : ramPage p (loaded p bytes ram) ≡ bytes
-  unfolding loaded
   loaded-page =
-      rw append-assoc
+      rw (loaded-cut, append-assoc)
       (ap (λ (l : List ℕ). take 16384 l) (drop-at (take (16384 * p) ram) (bytes ++ drop (16384 * p + 16384) ram) (16384 * p) (length-take-le (16384 * p) ram (omega arith)))
       ∙ take-at bytes (drop (16384 * p + 16384) ram) 16384 whole)
 

@@ -1,8 +1,9 @@
 -- Document 01: bytes and pages of the lent ROM and RAM. A page is 16 KiB; page p of RAM is its bytes 16,384 p to 16,384 p + 16,383, and so in ROM.
 -- Assumes nothing.
 use Prim.Native.Nat.{ℕ, _+_, _*_, _/_, _%_, _≤_, _<_}
-use mathlib.Core.List.{List, _++_}
-use lib.ListN.{getD, set, take, drop}
+use mathlib.Core.List.{List, [], _∷_}
+use lib.ListN.{getD, take, drop}
+use lib.Seq.{sets}
 use Rattle.machine.specs.declared.ZXMachine.{ZXMachine}
 use Rattle.machine.specs.Numbers.{specsOf}
 use Rattle.machine.specs.Limits.{pageLength}
@@ -29,10 +30,14 @@ byteIn (Ram at) rom ram = getD ram at 0
 abbrev pub byteAt : ZXMachine → ℕ → List ℕ → List ℕ → ℕ → ℕ
 byteAt m paging rom ram addr = byteIn (placeOf m paging addr) rom ram
 
--- "byte … write": RAM afterwards. "ROM writes vanish."
+-- bytes stored in RAM one after the other, the first of them at an offset: RAM afterwards
+abbrev pub stored : ℕ → List ℕ → List ℕ → List ℕ
+stored at bytes ram = sets ram at bytes
+
+-- "byte … write": RAM afterwards, a store of one byte. "ROM writes vanish."
 abbrev pub pokedIn : Place → List ℕ → ℕ → List ℕ
 pokedIn (Rom at) ram value = ram
-pokedIn (Ram at) ram value = set ram at value
+pokedIn (Ram at) ram value = stored at (value ∷ []) ram
 
 abbrev pub poked : ZXMachine → ℕ → List ℕ → ℕ → ℕ → List ℕ
 poked m paging ram addr value = pokedIn (placeOf m paging addr) ram value
@@ -59,9 +64,9 @@ startOf m (Ram at) = specsOf m .rom + at
 abbrev pub partStart : ZXMachine → Page → ℕ
 partStart m p = startOf m (placeIn p 0)
 
--- "page load (16,384 lent bytes into a RAM page)": RAM afterwards
-unfoldable pub loaded : ℕ → List ℕ → List ℕ → List ℕ
-loaded p bytes ram = take (pageLength * p) ram ++ bytes ++ drop (pageLength * p + pageLength) ram
+-- "page load (16,384 lent bytes into a RAM page)": RAM afterwards, a store from the page's first byte on
+abbrev pub loaded : ℕ → List ℕ → List ℕ → List ℕ
+loaded p bytes ram = stored (pageLength * p) bytes ram
 
 -- a place lies within the machine's ROM or RAM
 abbrev pub Within : ZXMachine → Place → Type 0

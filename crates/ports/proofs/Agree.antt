@@ -4,7 +4,7 @@
 use Prim.Native.Nat.{ℕ, zero, suc, _+_, _≤_, _<_}
 use mathlib.Core.Path.{_≡_, refl, sym, ap, ap₂, _∙_, subst}
 use mathlib.Core.Bool.{Bool, true, false, cond, not, _&&_, _||_, Bool·beq, or-true}
-use mathlib.Core.List.{List}
+use mathlib.Core.List.{List, [], _∷_}
 use native.Mathlib.Omega.{arith}
 use borrow.Author.Tests.{lt-ltb, le-ltb, eq-eqb, ne-eqb}
 use lib.Dec.{eqb}
@@ -21,10 +21,9 @@ use Rattle.ports.specs.declared.Joystick.the-variants as joystick
 use Rattle.ports.specs.declared.Mouse.the-variants as mouse
 use Rattle.ports.specs.declared.Devices.{Devices}
 use Rattle.ports.specs.declared.Answer.the-variants.{Value, Floating}
-use Rattle.ports.specs.declared.Written.{Written}
-use Rattle.ports.specs.declared.Written.the-variants as written
 use Rattle.ports.specs.Keys.{selected, rowIn, rowsAnd, keysRead}
-use Rattle.ports.specs.Order.{has7ffd, pagingPort, ayByte, readOrder, portOrder}
+use Rattle.ports.specs.Order.{has7ffd, pagingPort, ayByte, readOrder}
+use Rattle.ports.specs.Hearers.{Hearer, aySelect, ayWrite, border, paging, listens, firstOf, portHearers}
 use Rattle.ports.specs.Pages.{isSet, hasPaging, ulaLines, selectLines, Heard, pageWrite, ula, register, nobody, pageRead, readAlsoPages, keyUp, columnUp, pageKeyBit, Keyboard}
 use Rattle.ports.specs.Terms.{heardBy, writeParts, isFitted, asAnswer}
 use Rattle.ports.proofs.Rows.{rows-byte}
@@ -57,20 +56,22 @@ heard-eq h k e =
     λ i. record { border = q₁ i; paging = q₂ i; select = q₃ i; writes = q₄ i }
 
 -- document 01's write order over the five lines that it looks at
-byLines : Bool → Bool → Bool → Bool → Bool → Written
+byLines : Bool → Bool → Bool → Bool → Bool → List Hearer
 byLines pages a0 a1 a14 a15 =
-    cond (a15 && a14 && not a1) written.AySelect
-    (cond (a15 && not a14 && not a1) written.AyWrite
-    (cond (not a0) written.Border
-    (cond (not a15 && not a1 && pages) written.Paging written.Nothing)))
+    firstOf
+    (listens aySelect (a15 && a14 && not a1) ∷
+    listens ayWrite (a15 && not a14 && not a1) ∷
+    listens border (not a0) ∷
+    listens paging (not a15 && not a1 && pages) ∷
+    [])
 
 -- the machine that has 7FFDh is the same by both
 pub paging-machines : (m : ZXMachine) → has7ffd m ≡ hasPaging m
 paging-machines Sinclair48K = refl
 paging-machines Sinclair128K = refl
 
-by-lines : (m : ZXMachine) (port : ℕ) → portOrder m port ≡ byLines (hasPaging m) (isSet 0 port) (isSet 1 port) (isSet 14 port) (isSet 15 port)
-unfolding portOrder byLines
+by-lines : (m : ZXMachine) (port : ℕ) → portHearers m port ≡ byLines (hasPaging m) (isSet 0 port) (isSet 1 port) (isSet 14 port) (isSet 15 port)
+unfolding portHearers byLines
 by-lines m port = rw (select-lines port, data-lines port, even-lines port, paging-lines port, paging-machines m)
 
 heardLines : Bool → Bool → Bool → Bool → Bool → Bool → Heard
@@ -95,7 +96,7 @@ lines-tell =
     (λ pages fitted a0 a1 a14 a15. not (partLines pages fitted a0 a1 a14 a15))
     tt
 
-writes-tell : (m : ZXMachine) (fitted : Bool) (port : ℕ) → sameHeard (heardBy (portOrder m port)) (pageWrite m fitted port) ≡ not (writeParts m fitted port)
+writes-tell : (m : ZXMachine) (fitted : Bool) (port : ℕ) → sameHeard (heardBy (portHearers m port)) (pageWrite m fitted port) ≡ not (writeParts m fitted port)
 unfolding heardLines partLines
 writes-tell m fitted port =
     rw (by-lines m port)
@@ -103,15 +104,15 @@ writes-tell m fitted port =
 
 module _ (m : ZXMachine) (fitted : Bool) (port : ℕ) where
   -- outside `writeParts` a write is heard by exactly those whom the pages name
-  pub writes-agree : writeParts m fitted port ≡ false → heardBy (portOrder m port) ≡ pageWrite m fitted port
-  writes-agree e = heard-eq (heardBy (portOrder m port)) (pageWrite m fitted port) (writes-tell m fitted port ∙ ap not e)
+  pub writes-agree : writeParts m fitted port ≡ false → heardBy (portHearers m port) ≡ pageWrite m fitted port
+  writes-agree e = heard-eq (heardBy (portHearers m port)) (pageWrite m fitted port) (writes-tell m fitted port ∙ ap not e)
 
   -- and at each of its ports it is not
-  pub writes-part : writeParts m fitted port ≡ true → heardBy (portOrder m port) ≡ pageWrite m fitted port → ⊥
+  pub writes-part : writeParts m fitted port ≡ true → heardBy (portHearers m port) ≡ pageWrite m fitted port → ⊥
   writes-part e h =
-      let p : sameHeard (heardBy (portOrder m port)) (pageWrite m fitted port) ≡ true =
-      subst (λ (k : Heard). sameHeard (heardBy (portOrder m port)) k ≡ true) h (heard-refl (heardBy (portOrder m port))) in
-      let q : sameHeard (heardBy (portOrder m port)) (pageWrite m fitted port) ≡ false = writes-tell m fitted port ∙ ap not e in
+      let p : sameHeard (heardBy (portHearers m port)) (pageWrite m fitted port) ≡ true =
+      subst (λ (k : Heard). sameHeard (heardBy (portHearers m port)) k ≡ true) h (heard-refl (heardBy (portHearers m port))) in
+      let q : sameHeard (heardBy (portHearers m port)) (pageWrite m fitted port) ≡ false = writes-tell m fitted port ∙ ap not e in
       let z : _≡_ {A = Bool} true false = sym p ∙ q in
       let y : _≡_ {A = ℕ} 0 1 = cc in
       omega arith
@@ -154,16 +155,16 @@ parts-bare-48K port = of-lines (isSet 0 port) (isSet 1 port) (isSet 15 port) whe
   of-lines false false false = refl
 
 -- 7FFCh on 128K: a border write and no more, where the pages set the border and page
-pub border-7FFC : portOrder Sinclair128K 0x7FFC ≡ written.Border
-unfolding portOrder
+pub border-7FFC : portHearers Sinclair128K 0x7FFC ≡ border ∷ []
+unfolding portHearers
 border-7FFC = refl
 
 pub page-7FFC : pageWrite Sinclair128K true 0x7FFC ≡ record { border = true; paging = true; select = false; writes = false }
 page-7FFC = refl
 
 -- FFFCh: the AY and no border, where the pages have both
-pub select-FFFC : (m : ZXMachine) → portOrder m 0xFFFC ≡ written.AySelect
-unfolding portOrder
+pub select-FFFC : (m : ZXMachine) → portHearers m 0xFFFC ≡ aySelect ∷ []
+unfolding portHearers
 select-FFFC m = refl
 
 pub page-FFFC : (m : ZXMachine) → pageWrite m true 0xFFFC ≡ record { border = true; paging = false; select = true; writes = false }

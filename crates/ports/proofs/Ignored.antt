@@ -22,7 +22,8 @@ use Rattle.ports.specs.declared.Mouse.{Mouse}
 use Rattle.ports.specs.declared.Mouse.the-variants as mouse
 use Rattle.ports.specs.declared.Devices.{Devices}
 use Rattle.ports.specs.Devices.{byteAt, mouseOf, rowsOf, devicesOf, flagsOf, ignored}
-use Rattle.ports.specs.Order.{readOrder, writeOrder}
+use Rattle.ports.specs.Order.{readOrder}
+use Rattle.ports.specs.Hearers.{hearers}
 
 -- ---- two records that agree but for ignored bytes stand for the same devices
 early : (s : List ℕ) (k : ℕ) → k < 26 → ignored s k ≡ false
@@ -77,8 +78,8 @@ module _ (s t : List ℕ) (ls : length s ≡ 35) (lt : length t ≡ 35) (h : (k 
   pub same-reads : (port : ℕ) → readOrder (devicesOf s) port ≡ readOrder (devicesOf t) port
   same-reads port = ap (λ (d : Devices). readOrder d port) absent-ignored
 
-  pub same-writes : (m : ZXMachine) (port : ℕ) → writeOrder m (devicesOf s) port ≡ writeOrder m (devicesOf t) port
-  same-writes m port = ap (λ (d : Devices). writeOrder m d port) absent-ignored
+  pub same-writes : (m : ZXMachine) (port : ℕ) → hearers m (devicesOf s) port ≡ hearers m (devicesOf t) port
+  same-writes m port = ap (λ (d : Devices). hearers m d port) absent-ignored
 
 -- ---- and nothing else is lost: records that are read as the same devices agree in every byte that is not ignored
 never : {A : Type 0} → true ≡ false → A

@@ -8,3 +8,4 @@ pub mod Fetches
 pub mod BlockClocks
 pub mod Keyboards
 pub mod Ignored
+pub mod Hearing

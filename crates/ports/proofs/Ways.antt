@@ -32,7 +32,8 @@ use Rattle.ports.specs.Devices.{byteAt, extenderOf, ayOf, joystickOf, mo
 use Rattle.ports.specs.Keys.{keysRead}
 use Rattle.ports.specs.Floating.{floatingPlace, floatingAddress}
 use Rattle.offsets.specs.Offset.{lineStart, attributeStart}
-use Rattle.ports.specs.Order.{evenPort, withJoystick, withAy, withMouse, readOrder, portOrder, writeOrder}
+use Rattle.ports.specs.Order.{evenPort, withJoystick, withAy, withMouse, readOrder}
+use Rattle.ports.specs.Hearers.{portHearers, hearers, hearersOf}
 
 -- ---- the device record
 pub devices-are : (s rows : List ℕ) (e : Extender) (a : Ay) (j : Joystick) (m : Mouse) → rows ≡ rowsOf s → e ≡ extenderOf (byteAt s 25) (byteAt s 26)
@@ -105,34 +106,34 @@ module _ (d : Devices) (port : ℕ) where
 
 -- ---- the write order
 module _ (m : ZXMachine) (port : ℕ) where
-  pub write-select : bitAnd port 0xC002 ≡ 0xC000 → written.AySelect ≡ portOrder m port
-  unfolding portOrder
+  pub write-select : bitAnd port 0xC002 ≡ 0xC000 → hearersOf written.AySelect ≡ portHearers m port
+  unfolding portHearers
   write-select h = rw (eq-eqb _ _ h)
 
   module _ (no-select : bitAnd port 0xC002 ≡ 0xC000 → ⊥) where
-    pub write-data : bitAnd port 0xC002 ≡ 0x8000 → written.AyWrite ≡ portOrder m port
-    unfolding portOrder
+    pub write-data : bitAnd port 0xC002 ≡ 0x8000 → hearersOf written.AyWrite ≡ portHearers m port
+    unfolding portHearers
     write-data h = rw (ne-eqb _ _ no-select, eq-eqb _ _ h)
 
     module _ (no-data : bitAnd port 0xC002 ≡ 0x8000 → ⊥) where
-      pub write-border : bitAnd port 1 ≡ 0 → written.Border ≡ portOrder m port
-      unfolding portOrder
+      pub write-border : bitAnd port 1 ≡ 0 → hearersOf written.Border ≡ portHearers m port
+      unfolding portHearers
       write-border h = rw (ne-eqb _ _ no-select, ne-eqb _ _ no-data, is-even port h)
 
       module _ (odd : bitAnd port 1 ≡ 0 → ⊥) where
-        pub write-48K : m ≡ Sinclair48K → bitAnd port 0x8002 ≡ 0 → written.Nothing ≡ portOrder m port
-        unfolding portOrder
+        pub write-48K : m ≡ Sinclair48K → bitAnd port 0x8002 ≡ 0 → hearersOf written.Nothing ≡ portHearers m port
+        unfolding portHearers
         write-48K e h = rw (ne-eqb _ _ no-select, ne-eqb _ _ no-data, is-odd port odd, eq-eqb _ _ h, e)
 
-        pub write-paging : m ≡ Sinclair128K → bitAnd port 0x8002 ≡ 0 → written.Paging ≡ portOrder m port
-        unfolding portOrder
+        pub write-paging : m ≡ Sinclair128K → bitAnd port 0x8002 ≡ 0 → hearersOf written.Paging ≡ portHearers m port
+        unfolding portHearers
         write-paging e h = rw (ne-eqb _ _ no-select, ne-eqb _ _ no-data, is-odd port odd, eq-eqb _ _ h, e)
 
-        pub write-nothing : (bitAnd port 0x8002 ≡ 0 → ⊥) → written.Nothing ≡ portOrder m port
-        unfolding portOrder
+        pub write-nothing : (bitAnd port 0x8002 ≡ 0 → ⊥) → hearersOf written.Nothing ≡ portHearers m port
+        unfolding portHearers
         write-nothing h = rw (ne-eqb _ _ no-select, ne-eqb _ _ no-data, is-odd port odd, ne-eqb _ _ h)
 
-pub write-rest : (m : ZXMachine) (d : Devices) (port : ℕ) (w : Written) → w ≡ portOrder m port → d .extender ≡ extender.Absent → w ≡ writeOrder m d port
+pub write-rest : (m : ZXMachine) (d : Devices) (port : ℕ) (w : Written) → hearersOf w ≡ portHearers m port → d .extender ≡ extender.Absent → hearersOf w ≡ hearers m d port
 write-rest m d port w p e = rw e p
 
 -- ---- the floating bus

@@ -1,4 +1,4 @@
--- Document 01, "Bus calls": the port classes, who answers a read, and who hears a write.
+-- Document 01, "Bus calls": the port classes, and who answers a read.
 -- Assumes nothing.
 use Prim.Native.Nat.{ℕ, _%_}
 use mathlib.Core.Bool.{Bool, true, false, cond, _&&_}
@@ -17,8 +17,6 @@ use Rattle.ports.specs.declared.Mouse.the-variants as mouse
 use Rattle.ports.specs.declared.Devices.{Devices}
 use Rattle.ports.specs.declared.Answer.{Answer}
 use Rattle.ports.specs.declared.Answer.the-variants.{Value, Floating}
-use Rattle.ports.specs.declared.Written.{Written}
-use Rattle.ports.specs.declared.Written.the-variants as written
 use Rattle.ports.specs.Keys.{keysRead}
 
 -- ---- the classes of ports
@@ -89,7 +87,7 @@ readOrder d port =
     (withAy (d .ay) port
     (withJoystick (d .joystick) port))))
 
--- ---- "Write order"
+-- ---- what decides a write (specs/Hearers has its order)
 -- "The extender's flag says that it claims this call's port"
 abbrev pub claims : Extender → Bool
 claims extender.Absent = false
@@ -99,24 +97,3 @@ claims (extender.Present byte) = true
 abbrev pub has7ffd : ZXMachine → Bool
 has7ffd Sinclair48K = false
 has7ffd Sinclair128K = true
-
--- "C000h class 2; 8000h class 3; even port, border 4; & 8002h = 0 on 128K, paged 5 or locked 6; else 0"
-unfoldable pub portOrder : ZXMachine → ℕ → Written
-portOrder m port =
-    cond (classC000 port) written.AySelect
-    (cond (class8000 port) written.AyWrite
-    (cond (evenPort port) written.Border
-    (cond (pagingPort port && has7ffd m) written.Paging written.Nothing)))
-
--- "extender 1", and then the port's own order
-abbrev pub writeOrder : ZXMachine → Devices → ℕ → Written
-writeOrder m d port = cond (claims (d .extender)) written.Extender (portOrder m port)
-
--- the codes; `paging` is what the 7FFD write answers, 5 or 6
-abbrev pub writtenCode : Written → ℕ → ℕ
-writtenCode written.Extender paging = 1
-writtenCode written.AySelect paging = 2
-writtenCode written.AyWrite paging = 3
-writtenCode written.Border paging = 4
-writtenCode written.Paging paging = paging
-writtenCode written.Nothing paging = 0

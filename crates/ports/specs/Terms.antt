@@ -3,6 +3,7 @@
 use Prim.Native.Nat.{ℕ, _+_, _-_, _*_, _%_}
 use mathlib.Core.Path.{_≡_}
 use mathlib.Core.Bool.{Bool, true, false, cond, not, _&&_, _||_}
+use mathlib.Core.List.{List, [], _∷_}
 use lib.Dec.{leb}
 use Rattle.machine.specs.declared.ZXMachine.{ZXMachine}
 use Rattle.machine.specs.declared.ZXMachine.the-variants.{Sinclair48K, Sinclair128K}
@@ -14,25 +15,27 @@ use Rattle.ports.specs.declared.Ay.{Ay}
 use Rattle.ports.specs.declared.Ay.the-variants as ay
 use Rattle.ports.specs.declared.Answer.{Answer}
 use Rattle.ports.specs.declared.Answer.the-variants.{Value, Floating}
-use Rattle.ports.specs.declared.Written.{Written}
-use Rattle.ports.specs.declared.Written.the-variants as written
 use Rattle.ports.specs.declared.FloatingPlace.{FloatingPlace}
 use Rattle.ports.specs.declared.FloatingPlace.the-variants.{Idle, Bitmap, Attribute}
 use Rattle.ports.specs.declared.FloatingAddress.{FloatingAddress}
 use Rattle.ports.specs.declared.FloatingAddress.the-variants as address
 use Rattle.ports.specs.Order.{ayByte}
+use Rattle.ports.specs.Hearers.{Hearer, extender, aySelect, ayWrite, border, paging}
 use Rattle.ports.specs.Floating.{floatingPlace, floatingAddress}
 use Rattle.ports.specs.Pages.{isSet, hasPaging, Heard, Answerer, ula, register, nobody, Fetch, idle, bitmapByte, attributeByte, bitmapAt, attributeAt, Seen, nothing, byteOf}
 
 -- ---- writes
--- who of the pages' devices hears a write by document 01: at most one
-abbrev pub heardBy : Written → Heard
-heardBy written.Extender = record { border = false; paging = false; select = false; writes = false }
-heardBy written.AySelect = record { border = false; paging = false; select = true; writes = false }
-heardBy written.AyWrite = record { border = false; paging = false; select = false; writes = true }
-heardBy written.Border = record { border = true; paging = false; select = false; writes = false }
-heardBy written.Paging = record { border = false; paging = true; select = false; writes = false }
-heardBy written.Nothing = record { border = false; paging = false; select = false; writes = false }
+-- who of the pages' devices hears a write by document 01: the extender is none of them
+abbrev pub withHearer : Hearer → Heard → Heard
+withHearer extender x = x
+withHearer aySelect x = record { border = x .border; paging = x .paging; select = true; writes = x .writes }
+withHearer ayWrite x = record { border = x .border; paging = x .paging; select = x .select; writes = true }
+withHearer border x = record { border = true; paging = x .paging; select = x .select; writes = x .writes }
+withHearer paging x = record { border = x .border; paging = true; select = x .select; writes = x .writes }
+
+abbrev pub heardBy : List Hearer → Heard
+heardBy [] = record { border = false; paging = false; select = false; writes = false }
+heardBy (h ∷ hs) = withHearer h (heardBy hs)
 
 -- the ports at which a write parts from the pages: A1 is reset, and either A15 is set and the port is even or no AY is fitted, or A15 is reset,
 -- the port is even and the machine pages

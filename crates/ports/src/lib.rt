@@ -7,7 +7,8 @@ ghost use lib.ListN.{length};
 ghost use Rattle.machine.specs.Numbers.{specsOf, Regular};
 ghost use Rattle.ports.specs.Devices.{extenderOf, ayOf, joystickOf, mouseOf, rowsOf, devicesOf, flagsOf, devicesLength};
 ghost use Rattle.ports.specs.Keys.{selected, keysRead};
-ghost use Rattle.ports.specs.Order.{withJoystick, withAy, withMouse, readOrder, portOrder, writeOrder, writtenCode};
+ghost use Rattle.ports.specs.Order.{withJoystick, withAy, withMouse, readOrder};
+ghost use Rattle.ports.specs.Hearers.{portHearers, hearers, heardCode, hearersOf};
 ghost use Rattle.offsets.specs.Offset.{lineStart, attributeStart};
 ghost use Rattle.ports.specs.Floating.{floatingIn, floatingPlace, floatingAddress};
 use machine::ZXMachine;
@@ -258,7 +259,7 @@ pub fn read_port(d: Devices, port: u16) -> Answer
 
 // Who hears a port write, in document 01's order. The AY's classes are taken on both machines, and also when no AY is there.
 pub fn write_port(m: ZXMachine, d: Devices, port: u16) -> Written
-    ensures { λ r. ⌜ r ≡ writeOrder m d port ⌝ }
+    ensures { λ r. ⌜ hearersOf r ≡ hearers m d port ⌝ }
 {
     let extender = d.extender;
     match extender {
@@ -268,7 +269,7 @@ pub fn write_port(m: ZXMachine, d: Devices, port: u16) -> Written
 }
 
 fn written_by_port(m: ZXMachine, port: u16) -> Written
-    ensures { λ r. ⌜ r ≡ portOrder m port ⌝ }
+    ensures { λ r. ⌜ hearersOf r ≡ portHearers m port ⌝ }
 {
     let class = port & 0xC002;
     if class == 0xC000 {
@@ -292,7 +293,7 @@ fn written_by_port(m: ZXMachine, port: u16) -> Written
 
 // Document 01's code of a write; the 7FFD write's own answer is the code of a paging one.
 pub fn written_code(w: Written, paging: u8) -> u8
-    ensures { λ r. ⌜ r ≡ writtenCode w paging ⌝ }
+    ensures { λ r. ⌜ r ≡ heardCode (hearersOf w) paging ⌝ }
 {
     match w {
         Written::Extender => 1,

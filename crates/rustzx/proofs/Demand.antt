@@ -20,7 +20,7 @@ use Rattle.memory.specs.Paging.{bitSet, pageAt, pageExists, pagedCode}
 use Rattle.memory.specs.Memory.{placeOf, Holds, ramPage, pagePart}
 use Rattle.memory.proofs.Places.{map-holds}
 use Rattle.bus.specs.World.{World, started}
-use Rattle.bus.specs.Time.{Op, paged, poke, load, unpass, does, worldAfter}
+use Rattle.bus.specs.Time.{Silent, paged, unpass, silent, does, worldAfter}
 use Rattle.bus.specs.Turns.{clocksOf, Part, fresh, ranBy}
 use Rattle.bus.specs.Calls.{plainWait, addressWait, portRead, repaged, pagingWrite, portWrite}
 use Rattle.bus.proofs.OneStep.{frame-long}
@@ -180,16 +180,17 @@ by-machine our.Sinclair128K w s v h =
     let l = frame-long our.Sinclair128K in
     let k = s .clock in
     by-bool (λ (p : Paged). SoundWorld our.Sinclair128K (worldAfter our.Sinclair128K (repaged p) w)) (bitSet 5 (w .core .paging)) (λ e. s)
-    (λ e. op-kept our.Sinclair128K (paged v) w s (h, refl) (omega arith) (λ f. absurd (omega arith)))
+    (λ e. op-kept our.Sinclair128K (silent (paged v)) w s (h, refl) (omega arith) (λ f. absurd (omega arith)))
 
 -- ---- soundness goes on, so that the next call is in the domain again
 module _ (m : ours.ZXMachine) (w : World) (s : SoundWorld m w) where
   -- an operation that takes no clocks
-  at-once : (o : Op) → InRange m o → clocksOf o ≡ 0 → SoundWorld m (does m o w)
-  at-once o i z =
+  at-once : (o : Silent) → InRange m (silent o) → SoundWorld m (does m (silent o) w)
+  unfolding clocksOf
+  at-once o i =
       let l = frame-long m in
       let k = s .clock in
-      op-kept m o w s i (omega arith) (λ h. absurd (omega arith))
+      op-kept m (silent o) w s i (omega arith) (λ h. absurd (omega arith))
 
   paging-kept : (v : ℕ) → v < 256 → SoundWorld m (behind m (pagingWrite m v) w)
   unfolding paging.write7ffd worldAfter clocksOf
@@ -198,15 +199,15 @@ module _ (m : ours.ZXMachine) (w : World) (s : SoundWorld m w) where
   poke-kept : (p : Place) (v : ℕ) → SoundWorld m (worldAfter m (poking p v) w)
   unfolding worldAfter clocksOf
   poke-kept (place.Rom at) v = s
-  poke-kept (place.Ram at) v = at-once (poke at v) tt refl
+  poke-kept (place.Ram at) v = at-once _ tt
 
   load-kept : (p : ℕ) (bytes : List ℕ) → SoundWorld m (behind m (pageLoad p bytes) w)
   unfolding worldAfter clocksOf
-  load-kept p bytes = at-once (load p bytes) tt refl
+  load-kept p bytes = at-once _ tt
 
   reset-kept : SoundWorld m (behind m passedReset w)
   unfolding worldAfter clocksOf
-  reset-kept = at-once unpass tt refl
+  reset-kept = at-once unpass tt
 
   from-ran : (f : Part) → SoundWorld m (behind m f w) → SoundWorld m (ranBy f (fresh m w) .world)
   from-ran f k = subst (SoundWorld m) (sym (ran-world (f (w .core)) (fresh m w))) k

@@ -2,18 +2,18 @@
 -- Assumes nothing.
 use mathlib.Core.Path.{_≡_, refl, sym, ap, ap₂, _∙_, subst}
 use mathlib.Core.Bool.{Bool, true, false, cond, not}
-use mathlib.Core.List.{List, [], _∷_, map}
+use mathlib.Core.List.{List, [], _∷_, _++_, map}
 use Prim.Native.Nat.{ℕ, zero, suc, _+_, _*_, _/_, _%_}
 use native.Mathlib.Omega.{arith}
 use lib.Dec.{ltb, leb}
-use lib.ListN.{length, getD, set, List·getD-map}
+use lib.ListN.{length, getD, set, take, drop, List·getD-map}
 use lib.Bits.{bitAnd, and-mask}
 use borrow.Author.Tests.{lt-ltb, le-ltb, leb-true, leb-false}
 use Rattle.machine.specs.Numbers.{specsOf}
 use Rattle.memory.specs.declared.Page as stored
 use Rattle.memory.specs.declared.Page.the-variants as page
 use Rattle.memory.specs.Paging.{bit, pageAt, pageExists, pageContended}
-use Rattle.memory.specs.Memory.{placeIn, placeOf, byteIn, byteAt, pokedIn, poked, ramPage, loaded}
+use Rattle.memory.specs.Memory.{placeIn, placeOf, byteIn, byteAt, pokedIn, poked, ramPage}
 use Rattle.machine.specs.declared.ZXMachine as ours
 use Rattle.machine.specs.declared.ZXMachine.the-variants as our
 use Rattle.rustzx.specs.Machine.{ZXMachine, Sinclair48K, Sinclair128K}
@@ -81,6 +81,10 @@ turned : {A : Type 0} (t : Bool) (x y : A) → cond (not t) x y ≡ cond t y x
 turned true x y = refl
 turned false x y = refl
 
+-- RAM with a page cut out and bytes put in its place: the page load, where they are a page's (memory, `loaded-cut`)
+abbrev pub cut : ℕ → List ℕ → List ℕ → List ℕ
+cut p bytes ram = take (16384 * p) ram ++ bytes ++ drop (16384 * p + 16384) ram
+
 module _ (m : ZXMachine) (mem : ZXMemory) (long : length (mem .ram) ≡ specsOf (ourMachine m) .ram) where
   -- ram_page_data is the RAM page, and panics exactly where there is none
   pub page-data-is : (p : ℕ) → ramPageData mem p ≡ cond (pageExists (ourMachine m) p) (done (ramPage p (mem .ram))) panics
@@ -88,11 +92,10 @@ module _ (m : ZXMachine) (mem : ZXMemory) (long : length (mem .ram) ≡ specsOf 
       let e : p * 16384 ≡ 16384 * p = omega arith in
       rw (past-is m (length (mem .ram)) p (pageExists (ourMachine m) p) long refl, e) (turned (pageExists (ourMachine m) p) _ _)
 
-  -- a page's bytes copied over ram_page_data_mut are the page load, and panic exactly where there is no page
+  -- a page's bytes copied over ram_page_data_mut take the page's place, and panic exactly where there is no page
   pub load-is : (p : ℕ) (bytes : List ℕ)
       → loadPage mem p bytes
-      ≡ cond (pageExists (ourMachine m) p) (done (record { rom = mem .rom; ram = loaded p bytes (mem .ram); map = mem .map })) panics
-  unfolding loaded
+      ≡ cond (pageExists (ourMachine m) p) (done (record { rom = mem .rom; ram = cut p bytes (mem .ram); map = mem .map })) panics
   load-is p bytes =
       let e : p * 16384 ≡ 16384 * p = omega arith in
       rw (past-is m (length (mem .ram)) p (pageExists (ourMachine m) p) long refl, e) (turned (pageExists (ourMachine m) p) _ _)

@@ -16,14 +16,14 @@ use Rattle.memory.specs.Paging.{pageContended, write7ffd, pagedCode}
 use Rattle.ports.specs.declared.Devices.{Devices}
 use Rattle.ports.specs.declared.Extender.{Extender}
 use Rattle.ports.specs.declared.Extender.the-variants as extender
-use Rattle.ports.specs.declared.Written.{Written}
-use Rattle.ports.specs.declared.Written.the-variants as written
-use Rattle.ports.specs.Order.{readOrder, classC000, class8000, evenPort, pagingPort, claims, has7ffd, portOrder, writeOrder, writtenCode}
+use Rattle.ports.specs.Order.{readOrder, classC000, class8000, evenPort, pagingPort, claims, has7ffd}
+use Rattle.ports.specs.Hearers as hearer
+use Rattle.ports.specs.Hearers.{Hearer, portHearers, hearers, heardCode}
 use Rattle.bus.specs.World.{Core, World}
-use Rattle.bus.specs.Time.{Op, does, worldAfter}
+use Rattle.bus.specs.Time.{Op, inCore, inScreen, inEdge, does, worldAfter}
 use Rattle.bus.specs.Turns.{Part, andThen, coreAfter}
-use Rattle.bus.specs.Calls.{contended, plainWait, delayed, addressWait, firstPart, heldStep, lastPart, finalStep, readBefore, portRead, answered, readValue, actedOn, portWrite, writeCode}
-use Rattle.bus.proofs.Runs.{world-core}
+use Rattle.bus.specs.Calls.{contended, plainWait, delayed, addressWait, firstPart, delayStep, lastPart, finalStep, readBefore, portRead, answered, readValue, actedOn, portWrite, writeCode}
+use Rattle.bus.proofs.Runs.{acts-alone, world-core}
 use Rattle.machine.specs.declared.ZXMachine as ours
 use Rattle.rustzx.specs.Panics as run
 use Rattle.rustzx.specs.Panics.{Run, done, Ends}
@@ -78,14 +78,14 @@ module _ (m : ZXMachine) (rom : List ℕ) where
       ∙ ap (pageContended (ourMachine m)) (page-is (ourMachine m) rom (w .core .ram) (w .core .paging) (c .memory) (r .memory) addr)
 
   -- do_contention_and_wait and do_contention
-  held-follows : (n : ℕ) → Follows (heldStep (ourMachine m) n) (doContentionAndWait n)
-  unfolding worldAfter
+  held-follows : (n : ℕ) → Follows (delayStep (ourMachine m) n) (doContentionAndWait n)
+  unfolding worldAfter inCore inScreen inEdge
   held-follows n c w r =
       let e : contentionClocks (c .machine) (c .frameClocks) ≡ delay (specsOf (ourMachine m)) (w .core .clock) =
       ap₂ contentionClocks (r .machine) (r .clock) ∙ contention-is m (w .core .clock) in
       rw e (wait-related m rom c w (delay (specsOf (ourMachine m)) (w .core .clock) + n) r)
 
-  hold-follows : Follows (heldStep (ourMachine m) 0) doContention
+  hold-follows : Follows (delayStep (ourMachine m) 0) doContention
   hold-follows c w r = rw (add-zero (contentionClocks (c .machine) (c .frameClocks))) at (held-follows 0 c w r)
 
   pick-follows : (t : Bool) (x y : List Op) {c′ c″ : ZXController} (w : World) → Related m rom c′ (worldAfter (ourMachine m) x w) → Related m rom c″ (worldAfter (ourMachine m) y w)
@@ -96,7 +96,7 @@ module _ (m : ZXMachine) (rom : List ℕ) where
   delayed-follows : (addr : ℕ) → Follows (delayed (ourMachine m) addr) (contendedFirst addr)
   unfolding delayed worldAfter
   delayed-follows addr c w r =
-      rw (contended-follows addr c w r) (pick-follows (contended (ourMachine m) addr (w .core)) (heldStep (ourMachine m) 0 (w .core)) [] w (hold-follows c w r) r)
+      rw (contended-follows addr c w r) (pick-follows (contended (ourMachine m) addr (w .core)) (delayStep (ourMachine m) 0 (w .core)) [] w (hold-follows c w r) r)
 
   -- wait_mreq, and wait_no_mreq, which calls it
   pub wait-follows : (addr n : ℕ) → Follows (addressWait (ourMachine m) addr n) (waitMreq addr n)
@@ -113,10 +113,10 @@ module _ (m : ZXMachine) (rom : List ℕ) where
   unfolding lastPart ioContentionLast
   last-follows port c w r =
       rw (ap (λ (n : ZXMachine). portIsContended n port) (r .machine) ∙ port-is m port, contended-follows port c w r)
-      (pick-follows (portContended (ourMachine m) port) (heldStep (ourMachine m) 2 (w .core)) (cond (contended (ourMachine m) port (w .core)) (andThen (ourMachine m) (heldStep (ourMachine m) 1) (andThen (ourMachine m) (heldStep (ourMachine m) 1) (heldStep (ourMachine m) 0)) (w .core)) (plainWait 2 (w .core))) w (held-follows 2 c w r)
-      (pick-follows (contended (ourMachine m) port (w .core)) (andThen (ourMachine m) (heldStep (ourMachine m) 1) (andThen (ourMachine m) (heldStep (ourMachine m) 1) (heldStep (ourMachine m) 0)) (w .core)) (plainWait 2 (w .core)) w
-      (then-follows (heldStep (ourMachine m) 1) (andThen (ourMachine m) (heldStep (ourMachine m) 1) (heldStep (ourMachine m) 0)) (doContentionAndWait 1) (λ x. doContention (doContentionAndWait 1 x)) (held-follows 1)
-      (then-follows (heldStep (ourMachine m) 1) (heldStep (ourMachine m) 0) (doContentionAndWait 1) doContention (held-follows 1) hold-follows) c w r)
+      (pick-follows (portContended (ourMachine m) port) (delayStep (ourMachine m) 2 (w .core)) (cond (contended (ourMachine m) port (w .core)) (andThen (ourMachine m) (delayStep (ourMachine m) 1) (andThen (ourMachine m) (delayStep (ourMachine m) 1) (delayStep (ourMachine m) 0)) (w .core)) (plainWait 2 (w .core))) w (held-follows 2 c w r)
+      (pick-follows (contended (ourMachine m) port (w .core)) (andThen (ourMachine m) (delayStep (ourMachine m) 1) (andThen (ourMachine m) (delayStep (ourMachine m) 1) (delayStep (ourMachine m) 0)) (w .core)) (plainWait 2 (w .core)) w
+      (then-follows (delayStep (ourMachine m) 1) (andThen (ourMachine m) (delayStep (ourMachine m) 1) (delayStep (ourMachine m) 0)) (doContentionAndWait 1) (λ x. doContention (doContentionAndWait 1 x)) (held-follows 1)
+      (then-follows (delayStep (ourMachine m) 1) (delayStep (ourMachine m) 0) (doContentionAndWait 1) doContention (held-follows 1) hold-follows) c w r)
       (plain-follows 2 c w r)))
 
   before-follows : (port : ℕ) → Follows (readBefore (ourMachine m) port) (λ c. ioContentionLast port (ioContentionFirst port c))
@@ -141,19 +141,19 @@ module _ (m : ZXMachine) (rom : List ℕ) where
       }
 
   -- ---- the port write: whom the Rust reached has the code of who hears it, and what it leaves is what hearing does
-  abbrev Hears : Written → ℕ → World → Run Wrote → Type 0
+  abbrev Hears : List Hearer → ℕ → World → Run Wrote → Type 0
   Hears f v w x =
-      Ends x (λ y. (reachedCode (y .reached) ≡ writtenCode f (pagedCode (write7ffd (ourMachine m) (w .core .paging) v))) × Related m rom (y .controller) (behind (ourMachine m) (actedOn (ourMachine m) f v) w))
+      Ends x (λ y. (reachedCode (y .reached) ≡ heardCode f (pagedCode (write7ffd (ourMachine m) (w .core .paging) v))) × Related m rom (y .controller) (behind (ourMachine m) (actedOn (ourMachine m) f v) w))
 
   -- nothing of the bus hears it: an extender, an AY or nobody
-  unheard : (who : Reached) (f : Written) (v : ℕ) (c : ZXController) (w : World) → Related m rom c w → actedOn (ourMachine m) f v (w .core) ≡ []
-      → reachedCode who ≡ writtenCode f (pagedCode (write7ffd (ourMachine m) (w .core .paging) v)) → Hears f v w (done (reaches who c))
+  unheard : (who : Reached) (f : List Hearer) (v : ℕ) (c : ZXController) (w : World) → Related m rom c w → actedOn (ourMachine m) f v (w .core) ≡ []
+      → reachedCode who ≡ heardCode f (pagedCode (write7ffd (ourMachine m) (w .core .paging) v)) → Hears f v w (done (reaches who c))
   unfolding worldAfter
   unheard who f v c w r none e = record { value = reaches who c; ends = refl; holds = (e, rw none r) }
 
   -- the border: from_bits of three bits never panics
   border-hears : (v : ℕ) (c : ZXController) (w : World) → Related m rom c w
-      → Hears written.Border v w (run.andThen (fromBits (bitAnd v 0x07)) (λ color. done (reaches toBorder (setBorderColor (c .frameClocks) color c))))
+      → Hears (hearer.border ∷ []) v w (run.andThen (fromBits (bitAnd v 0x07)) (λ color. done (reaches toBorder (setBorderColor (c .frameClocks) color c))))
   unfolding worldAfter
   border-hears v c w r =
       let h : v % 8 < 8 = omega arith in
@@ -168,12 +168,19 @@ module _ (m : ZXMachine) (rom : List ℕ) where
   has-paging Sinclair48K who e = absurd (false≢true e)
   has-paging Sinclair128K who e = refl
 
-  paging-hears : (v : ℕ) (c : ZXController) (w : World) → Related m rom c w → has7ffd (ourMachine m) ≡ true → Hears written.Paging v w (rust.write7ffd v c)
+  paging-hears : (v : ℕ) (c : ZXController) (w : World) → Related m rom c w → has7ffd (ourMachine m) ≡ true → Hears (hearer.paging ∷ []) v w (rust.write7ffd v c)
   paging-hears v c w r has =
       let e = paging-related m rom c w v r in
-      record { value = e .value; ends = e .ends; holds = (has-paging m (e .value .reached) has ∙ e .holds .0, e .holds .1) }
+      record {
+        value = e .value;
+        ends = e .ends;
+        holds = (
+          has-paging m (e .value .reached) has ∙ e .holds .0,
+          subst (λ (f : Part). Related m rom (e .value .controller) (behind (ourMachine m) f w)) (sym (acts-alone (ourMachine m) hearer.paging v)) (e .holds .1),
+        );
+      }
 
-  pick-hears : (v : ℕ) (w : World) (t : Bool) {x y : Run Wrote} (f g : Written) → (t ≡ true → Hears f v w x) → Hears g v w y → Hears (cond t f g) v w (cond t x y)
+  pick-hears : (v : ℕ) (w : World) (t : Bool) {x y : Run Wrote} (f g : List Hearer) → (t ≡ true → Hears f v w x) → Hears g v w y → Hears (cond t f g) v w (cond t x y)
   pick-hears v w true f g p q = p refl
   pick-hears v w false f g p q = q
 
@@ -182,19 +189,19 @@ module _ (m : ZXMachine) (rom : List ℕ) where
   has-is Sinclair128K = refl
 
   -- who hears the write, in the Rust's order
-  order-hears : (port v : ℕ) (c : ZXController) (w : World) → Related m rom c w → Hears (portOrder (ourMachine m) port) v w (rust.portWrite port v c)
-  unfolding portOrder
+  order-hears : (port v : ℕ) (c : ZXController) (w : World) → Related m rom c w → Hears (portHearers (ourMachine m) port) v w (rust.portWrite port v c)
+  unfolding portHearers
   order-hears port v c w r =
       rw (port-is m port, ap is128K (r .machine) ∙ has-is m)
-      (pick-hears v w (classC000 port) written.AySelect _ (λ t. unheard toAySelect written.AySelect v c w r refl refl)
-      (pick-hears v w (class8000 port) written.AyWrite _ (λ t. unheard toAyWrite written.AyWrite v c w r refl refl)
-      (pick-hears v w (evenPort port) written.Border _ (λ t. border-hears v c w r)
-      (pick-hears v w (pagingPort port && has7ffd (ourMachine m)) written.Paging written.Nothing (λ t. paging-hears v c w r (and-right (pagingPort port) (has7ffd (ourMachine m)) t))
-      (unheard toNobody written.Nothing v c w r refl refl)))))
+      (pick-hears v w (classC000 port) (hearer.aySelect ∷ []) _ (λ t. unheard toAySelect (hearer.aySelect ∷ []) v c w r refl refl)
+      (pick-hears v w (class8000 port) (hearer.ayWrite ∷ []) _ (λ t. unheard toAyWrite (hearer.ayWrite ∷ []) v c w r refl refl)
+      (pick-hears v w (evenPort port) (hearer.border ∷ []) _ (λ t. border-hears v c w r)
+      (pick-hears v w (pagingPort port && has7ffd (ourMachine m)) (hearer.paging ∷ []) [] (λ t. paging-hears v c w r (and-right (pagingPort port) (has7ffd (ourMachine m)) t))
+      (unheard toNobody [] v c w r refl refl)))))
 
   extender-hears : (x : Extender) (port v : ℕ) (c : ZXController) (w : World) → Related m rom c w
-      → Hears (cond (claims x) written.Extender (portOrder (ourMachine m) port)) v w (extenderWrite (extenderGives x) port v c)
-  extender-hears (extender.Present own) port v c w r = unheard toExtender written.Extender v c w r refl refl
+      → Hears (cond (claims x) (hearer.extender ∷ []) (portHearers (ourMachine m) port)) v w (extenderWrite (extenderGives x) port v c)
+  extender-hears (extender.Present own) port v c w r = unheard toExtender (hearer.extender ∷ []) v c w r refl refl
   extender-hears extender.Absent port v c w r = order-hears port v c w r
 
   -- WRITE_IO: it does not panic, acts where the port write acts, and takes its steps; and whom it reached gives the write's code.
@@ -205,14 +212,14 @@ module _ (m : ZXMachine) (rom : List ℕ) where
       let c₁ : ZXController = ioContentionFirst port c in
       let w₁ : World = behind (ourMachine m) (firstPart (ourMachine m) port) w in
       let a = extender-hears (d .extender) port v c₁ w₁ (first-follows port c w r) in
-      let acts : Part = actedOn (ourMachine m) (writeOrder (ourMachine m) d port) v in
+      let acts : Part = actedOn (ourMachine m) (hearers (ourMachine m) d port) v in
       let w₂ : World = behind (ourMachine m) acts w₁ in
       let end = then-follows (lastPart (ourMachine m) port) finalStep (ioContentionLast port) (waitInternal 1) (last-follows port) (plain-follows 1) (a .value .controller) w₂ (a .holds .1) in
       record {
         value = reaches (a .value .reached) (waitInternal 1 (ioContentionLast port (a .value .controller)));
         ends = ap (λ (x : Run Wrote). run.andThen x (λ acted. done (reaches (acted .reached) (waitInternal 1 (ioContentionLast port (acted .controller)))))) (a .ends);
         holds = (
-          a .holds .0 ∙ ap (λ (x : Core). writtenCode (writeOrder (ourMachine m) d port) (pagedCode (write7ffd (ourMachine m) (x .paging) v))) (world-core (ourMachine m) (firstPart (ourMachine m) port (w .core)) w),
+          a .holds .0 ∙ ap (λ (x : Core). heardCode (hearers (ourMachine m) d port) (pagedCode (write7ffd (ourMachine m) (x .paging) v))) (world-core (ourMachine m) (firstPart (ourMachine m) port (w .core)) w),
           subst (Related m rom (waitInternal 1 (ioContentionLast port (a .value .controller))))
               (sym (behind-then (ourMachine m) (firstPart (ourMachine m) port) (andThen (ourMachine m) acts (andThen (ourMachine m) (lastPart (ourMachine m) port) finalStep)) w
               ∙ behind-then (ourMachine m) acts (andThen (ourMachine m) (lastPart (ourMachine m) port) finalStep) w₁))

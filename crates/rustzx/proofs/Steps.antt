@@ -16,7 +16,7 @@ use Rattle.machine.proofs.Numbered.{regular}
 use Rattle.machine.proofs.Rising.{blocks-mono, end-is}
 use Rattle.border.specs.Edge.{Edge, finished, inked, inkedAt}
 use Rattle.bus.specs.World.{World}
-use Rattle.bus.specs.Time.{tick, colour, unpass, closes, lookAt, showsA, caughtUp, inCore, inScreen, inEdge, wentOn, wrapped, does}
+use Rattle.bus.specs.Time.{unpass, tick, colour, silent, closes, lookAt, showsA, caughtUp, inCore, inScreen, inEdge, wentOn, wrapped, does}
 use Rattle.bus.proofs.OneStep.{core-closed, core-goes, screen-closed, screen-goes, edge-closed, edge-goes}
 use Rattle.bus.proofs.Kept.{SoundWorld}
 use Rattle.machine.specs.declared.ZXMachine as ours
@@ -173,13 +173,13 @@ colour-related m rom c w color k ink r =
 
 -- THE RESET OF PASSED FRAMES.
 pub unpass-related : (m : ZXMachine) (rom : List ℕ) (c : ZXController) (w : World) → Related m rom c w
-    → Related m rom (resetFrameCounter c) (does (ourMachine m) unpass w)
+    → Related m rom (resetFrameCounter c) (does (ourMachine m) (silent unpass) w)
 unfolding inCore inScreen inEdge
 unpass-related m rom c w r =
     record {
       machine = r .machine;
       memory = r .memory;
-      screen = same-core m (c .screen) (w .core) (inCore (ourMachine m) unpass (w .core)) (w .screen) (r .screen) refl refl refl;
+      screen = same-core m (c .screen) (w .core) (inCore (ourMachine m) (silent unpass) (w .core)) (w .screen) (r .screen) refl refl refl;
       border = r .border;
       reported = r .reported;
       clock = r .clock;

@@ -2,13 +2,13 @@
 -- Assumes nothing.
 use mathlib.Core.Path.{_≡_, refl, sym, ap, _∙_, subst, subst⁻¹}
 use mathlib.Core.Bool.{Bool, true, false, cond, not}
-use mathlib.Core.List.{List}
+use mathlib.Core.List.{List, [], _∷_}
 use Prim.Native.Nat.{ℕ, zero, suc, _+_, _-_, _*_, _/_, _%_, _<_, _≤_}
 use native.Mathlib.Nat.{zero-add}
 use native.Mathlib.Omega.{arith}
 use lib.Dec.{eqb}
 use lib.ListN.{length, getD, set, drop, length-set, length-drop}
-use lib.Seq.{take-set-le, take-set-lt, drop-set-lt, drop-set-add, length-take-le}
+use lib.Seq.{length-sets, take-set-le, take-set-lt, drop-set-lt, drop-set-add, length-take-le}
 use Rattle.laws.proofs.Cases.{by-bool, by-eq, split}
 use Rattle.machine.specs.Numbers.{specsOf}
 use Rattle.screen.proofs.OneBit.{mask-bit}
@@ -19,9 +19,9 @@ use Rattle.memory.specs.Paging as paging
 use Rattle.memory.specs.Paging.{bitSet, memoryMap, pageAt, shownPage, pageExists, pagedCode}
 use Rattle.memory.specs.Memory.{placeIn, placeOf, pokedIn, poked, ramPage, loaded}
 use Rattle.memory.proofs.Places.{map-holds, exists-fits}
-use Rattle.memory.proofs.Stored.{length-loaded}
+use Rattle.memory.proofs.Stored.{loaded-cut}
 use Rattle.bus.specs.World.{Core, Screen, World}
-use Rattle.bus.specs.Time.{paged, poke, load, inCore, inScreen, inEdge, does, worldAfter}
+use Rattle.bus.specs.Time.{store, paged, silent, inCore, inScreen, inEdge, does, worldAfter}
 use Rattle.bus.specs.Calls.{repaged, pagingWrite}
 use Rattle.rustzx.specs.Machine.{ZXMachine, Sinclair48K, Sinclair128K}
 use Rattle.rustzx.specs.Panics.{Run, done, Option, some, none, andThen, each, Ends}
@@ -33,7 +33,7 @@ use Rattle.bus.specs.Pokes.{poking, byteWrite}
 use Rattle.rustzx.specs.Calls.{reachedCode, pagingCode}
 use Rattle.rustzx.proofs.Loops.{each-last}
 use Rattle.rustzx.proofs.Screens.{banks-screen}
-use Rattle.rustzx.proofs.Pages.{page-is, write-is, remap-is, page-data-is, load-is}
+use Rattle.rustzx.proofs.Pages.{page-is, write-is, remap-is, page-data-is, cut, load-is}
 use Rattle.rustzx.proofs.Banks.{put, update-is, put-mirrors, putAll, all-mirrors}
 
 -- ---- the 7FFD write
@@ -71,7 +71,7 @@ switch-is : (v : ℕ) (s : ZXScreen) → switchBank Sinclair128K (newScreenBank 
 switch-is v s = ap (λ (b : ℕ). switchTo (localBank Sinclair128K b) s) (bank-is v) ∙ switched (bitSet 3 v) s
 
 module _ (rom : List ℕ) (c : ZXController) (w : World) (v : ℕ) (r : Related Sinclair128K rom c w) where
-  repaged-screen : SameScreen Sinclair128K (switchBank (c .machine) (newScreenBank v) (c .screen)) (inCore (ourMachine Sinclair128K) (paged v) (w .core)) (w .screen)
+  repaged-screen : SameScreen Sinclair128K (switchBank (c .machine) (newScreenBank v) (c .screen)) (inCore (ourMachine Sinclair128K) (silent (paged v)) (w .core)) (w .screen)
   unfolding inCore
   repaged-screen =
       rw (r .machine, switch-is v (c .screen))
@@ -87,7 +87,7 @@ module _ (rom : List ℕ) (c : ZXController) (w : World) (v : ℕ) (r : Related 
       })
 
   taken : bitSet 5 (w .core .paging) ≡ false
-      → Ends (write7ffd v c) (λ x. (reachedCode (x .reached) ≡ 5) × Related Sinclair128K rom (x .controller) (does (ourMachine Sinclair128K) (paged v) w))
+      → Ends (write7ffd v c) (λ x. (reachedCode (x .reached) ≡ 5) × Related Sinclair128K rom (x .controller) (does (ourMachine Sinclair128K) (silent (paged v)) w))
   unfolding inCore inScreen inEdge
   taken e =
       let enabled : c .pagingEnabled ≡ true = r .enabled ∙ ap not e in
@@ -234,7 +234,7 @@ module _ (m : ZXMachine) (rom : List ℕ) (c : ZXController) (w : World) (addr v
         holds = record {
           machine = r .machine;
           memory = written-to (page.Ram p) e;
-          screen = put-screen m (localBank m p) rel v (c .screen) (w .core) (inCore (ourMachine m) (poke (16384 * p + rel) v) (w .core)) (w .screen) (r .screen) refl refl
+          screen = put-screen m (localBank m p) rel v (c .screen) (w .core) (inCore (ourMachine m) (silent (store (16384 * p + rel) (v ∷ []))) (w .core)) (w .screen) (r .screen) refl refl
               (mirrored-put m p rel v (c .screen) (w .core .ram) (omega arith) fits (r .screen .mirrored));
           border = r .border;
           reported = r .reported;
@@ -331,14 +331,14 @@ refresh-is Sinclair128K mem s c c′ w r p q u long =
 -- PAGE LOAD: the copy and its refresh do not panic where the page is there, and keep the two machines related.
 pub load-related : (m : ZXMachine) (rom : List ℕ) (c : ZXController) (w : World) (p : ℕ) (bytes : List ℕ) → Related m rom c w
     → pageExists (ourMachine m) p ≡ true → length bytes ≡ 16384
-    → Ends (loadAndRefresh p bytes c) (λ c′. Related m rom c′ (does (ourMachine m) (load p bytes) w))
+    → Ends (loadAndRefresh p bytes c) (λ c′. Related m rom c′ (does (ourMachine m) (silent (store (16384 * p) bytes)) w))
 unfolding loadAndRefresh inCore inScreen inEdge
 load-related m rom c w p bytes r there whole =
     let fits : 16384 * p + 16384 ≤ length (w .core .ram) = omega (arith, r .ramLong, exists-fits (ourMachine m) p there) in
-    let mem : ZXMemory = record { rom = c .memory .rom; ram = loaded p bytes (c .memory .ram); map = c .memory .map } in
-    let same : mem .ram ≡ loaded p bytes (w .core .ram) = ap (loaded p bytes) (r .memory .ram) in
-    let long : length (loaded p bytes (w .core .ram)) ≡ specsOf (ourMachine m) .ram = length-loaded p bytes (w .core .ram) whole fits ∙ r .ramLong in
-    let f = refresh-is m mem (c .screen) (w .core) (inCore (ourMachine m) (load p bytes) (w .core)) (w .screen) (r .screen) refl refl (sym same) (ap length same ∙ long) in
+    let mem : ZXMemory = record { rom = c .memory .rom; ram = cut p bytes (c .memory .ram); map = c .memory .map } in
+    let same : mem .ram ≡ loaded p bytes (w .core .ram) = ap (cut p bytes) (r .memory .ram) ∙ sym (loaded-cut p bytes (w .core .ram) whole fits) in
+    let long : length (loaded p bytes (w .core .ram)) ≡ specsOf (ourMachine m) .ram = length-sets (w .core .ram) (16384 * p) bytes ∙ r .ramLong in
+    let f = refresh-is m mem (c .screen) (w .core) (inCore (ourMachine m) (silent (store (16384 * p) bytes)) (w .core)) (w .screen) (r .screen) refl refl (sym same) (ap length same ∙ long) in
     record {
       value = withMemory mem (f .value) c;
       ends =
