@@ -44,7 +44,7 @@ use Rattle.answers.specs.Order.{NoneHolds}
 use Rattle.answers.proofs.Order.{state-ordered, wait-ordered, port-ordered, told-ordered, write-ordered, load-ordered}
 use Rattle.contracts.specs.Timed.{Lent, lentBy, startFitsOf, startLeaves, start, Outcome, outcome, timed, timedEnd, judgeWaitOf, judgePortOf, waitInternal, waitAt, readIo, writeIo}
 use Rattle.contracts.specs.Plain.{change, repage, writeInternal, write7ffdCall, resetFrames, loadPage}
-use Rattle.contracts.specs.Calls.{TimedCall, plain, mreq, noMreq, portIn, portOut, Call, startAgain, timedCall, writeByte, writePaging, resetPassed, loadRam, ask, Result, withRam, withState, waited, partOf, valueOf, opsOf, replied, performed, timedCauses, causesOf, Typed, Sized, NotStarted}
+use Rattle.contracts.specs.Calls.{TimedCall, plain, mreq, noMreq, portIn, portOut, Call, startAgain, takeTime, writeByte, writePaging, resetPassed, loadRam, ask, Result, withRam, withState, waited, partOf, valueOf, opsOf, replied, performed, timedCauses, causesOf, Typed, Sized, NotStarted}
 use Rattle.contracts.proofs.Wholes.{record-of}
 
 -- what operations keep of a world
@@ -109,9 +109,9 @@ module _ (m : ZXMachine) (w : World) (sound : SoundWorld m w) (sized : Sized m w
       by (portOut devices port′ value) h = ap (timed (partOf (portOut devices port′ value)) (valueOf (portOut devices port′ value)) l answer) (port devices h)
 
     -- of operations of a timed call, within refusal 5's limit
-    part-timed : Typed (timedCall t answer) → Timed m (partOf t m)
+    part-timed : Typed (takeTime t answer) → Timed m (partOf t m)
     part-timed typed = by t h typed where
-      by : (t : TimedCall) → NoneHolds (timedCauses t l answer) → Typed (timedCall t answer) → Timed m (partOf t m)
+      by : (t : TimedCall) → NoneHolds (timedCauses t l answer) → Typed (takeTime t answer) → Timed m (partOf t m)
       by (plain k) h typed = plain-timed m k (omega (arith, ltb-false longestWait k (h .1 .1 .1 .0)))
       by (mreq addr k) h typed = address-timed m addr k (ltb-false longestWait k (h .1 .1 .1 .0))
       by (noMreq addr k) h typed = address-timed m addr k (ltb-false longestWait k (h .1 .1 .1 .0))
@@ -134,7 +134,7 @@ module _ (m : ZXMachine) (w : World) (sound : SoundWorld m w) (sized : Sized m w
     abbrev os : List Op
     os = partOf t m (w .core)
 
-    pub timed-kept : Typed (timedCall t answer) → Kept m os w
+    pub timed-kept : Typed (takeTime t answer) → Kept m os w
     timed-kept typed =
         let same = ran-world os (fresh m w) in
         let timed = part-timed typed in
@@ -150,7 +150,7 @@ module _ (m : ZXMachine) (w : World) (sound : SoundWorld m w) (sized : Sized m w
         (timedAnswer (valueOf t m (w .core)) (closedIn m os (w .core)) (interrupt (worldAfter m os w .core .clock)) (0 + clocksIn os) (0 + blocksIn m os w))
     timed-left = waited-is ∙ ap (λ turn. timedEnd turn (valueOf t m (w .core))) (ran-is os (fresh m w))
 
-    pub few-blocks : Typed (timedCall t answer) → blocksIn m os w ≤ 12288
+    pub few-blocks : Typed (takeTime t answer) → blocksIn m os w ≤ 12288
     few-blocks typed = rw (fresh-blocks os m w) at (call-fits m (partOf t m) (part-timed typed) w sound .1)
 
   -- ---- calls that take no time
@@ -252,7 +252,7 @@ module _ (m : ZXMachine) (w : World) (sound : SoundWorld m w) (sized : Sized m w
   pub acted : (k : Call) → NotStarted k 0 → Typed k → NoneHolds (causesOf k l) → Acted k
   unfolding opsOf performed worldAfter
   acted (startAgain machine) first typed h = absurd (first refl)
-  acted (timedCall t answer) first typed h = record { slices = ap (λ (o : Outcome). o .slices) (timed-left t answer h); kept = timed-kept t answer h typed }
+  acted (takeTime t answer) first typed h = record { slices = ap (λ (o : Outcome). o .slices) (timed-left t answer h); kept = timed-kept t answer h typed }
   acted (writeByte addr value) first typed h = write-acted addr value h
   acted (writePaging value answer) first typed h = paging-acted value answer typed h
   acted resetPassed first typed h = reset-acted h

@@ -16,7 +16,7 @@ use Rattle.answers.specs.Judges.{ramFits}
 use Rattle.answers.specs.Order.{NoneHolds}
 use Rattle.contracts.specs.Timed.{Lent, lentBy}
 use Rattle.contracts.specs.Plain.{Told, Changed, Repaged, writeInternal, write7ffdCall, resetFrames, loadPage}
-use Rattle.contracts.specs.Calls.{Call, startAgain, timedCall, writeByte, writePaging, resetPassed, loadRam, ask, Result, result, withRam, withState, opsOf, replied, performed, causesOf, refusedFilled, Typed, Portions, lentOf, handedBack, Sized, NotStarted}
+use Rattle.contracts.specs.Calls.{Call, startAgain, takeTime, writeByte, writePaging, resetPassed, loadRam, ask, Result, result, withRam, withState, opsOf, replied, performed, causesOf, refusedFilled, Typed, Portions, lentOf, handedBack, Sized, NotStarted}
 use Rattle.contracts.proofs.Calls.{call-numbered, call-refused}
 use Rattle.contracts.proofs.Lending.{untouched, ram-changed, state-changed, lent-whole, handed-whole}
 use Rattle.contracts.proofs.Wholes.{timed-whole, reply-whole, state-whole, bus-is, ram-long, ram-whole}
@@ -50,13 +50,13 @@ module _ (m : ZXMachine) (w : World) (sound : SoundWorld m w) (sized : Sized m w
   pub as-whole : (k : Call) → NotStarted k 0 → Typed k → performed k part .code ≡ 0 → back (performed k part) ≡ performed k l
   unfolding performed
   as-whole (startAgain machine) first typed z = absurd (first refl)
-  as-whole (timedCall t answer) first typed z =
-      let whole = timed-whole m w sound sized n t answer (call-numbered (timedCall t answer) part .zeroByNone z) in
+  as-whole (takeTime t answer) first typed z =
+      let whole = timed-whole m w sound sized n t answer (call-numbered (takeTime t answer) part .zeroByNone z) in
       let same = lent-whole n l whole in
-      let a = whole-acted (timedCall t answer) first typed (subst (λ (x : Lent). performed (timedCall t answer) x .code ≡ 0) same z) in
-      ap (λ (x : Lent). back (performed (timedCall t answer) x)) same
-      ∙ ap (λ (x : Lent). result (performed (timedCall t answer) l .code) x (performed (timedCall t answer) l .filled))
-      (ap (handedBack n l) (a .slices) ∙ handed-whole n m w (worldAfter m (opsOf m (timedCall t answer) (w .core)) w) whole (a .kept .lengths) ∙ sym (a .slices))
+      let a = whole-acted (takeTime t answer) first typed (subst (λ (x : Lent). performed (takeTime t answer) x .code ≡ 0) same z) in
+      ap (λ (x : Lent). back (performed (takeTime t answer) x)) same
+      ∙ ap (λ (x : Lent). result (performed (takeTime t answer) l .code) x (performed (takeTime t answer) l .filled))
+      (ap (handedBack n l) (a .slices) ∙ handed-whole n m w (worldAfter m (opsOf m (takeTime t answer) (w .core)) w) whole (a .kept .lengths) ∙ sym (a .slices))
   as-whole (writeByte addr value) first typed z =
       let h = call-numbered (writeByte addr value) part .zeroByNone z in
       let fit : ramFits (recordOf (part .state)) (length (part .ram)) ≡ _ = not-false _ (h .1 .1 .0) in

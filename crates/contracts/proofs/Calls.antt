@@ -7,7 +7,7 @@ use mathlib.Core.Path.{_≡_, refl, ap}
 use Rattle.answers.specs.Order.{Numbered}
 use Rattle.contracts.specs.Timed.{Lent}
 use Rattle.contracts.specs.Plain.{told}
-use Rattle.contracts.specs.Calls.{TimedCall, plain, mreq, noMreq, portIn, portOut, Helper, lineAddr, lineOf, columnOf, attrRowOf, attrColumnOf, colorOf, Question, byteRead, pagingRead, interruptAsked, framesAsked, pageAsked, blockAsked, shownAsked, stillAsked, help, Call, startAgain, timedCall, writeByte, writePaging, resetPassed, loadRam, ask, Result, result, withRam, withState, waited, helpedBy, replied, performed, timedCauses, helperRange, helperCauses, questionCauses, causesOf, refusedReply, refusedFilled}
+use Rattle.contracts.specs.Calls.{TimedCall, plain, mreq, noMreq, portIn, portOut, Helper, lineAddr, lineOf, columnOf, attrRowOf, attrColumnOf, colorOf, Question, byteRead, pagingRead, interruptAsked, framesAsked, pageAsked, blockAsked, shownAsked, stillAsked, help, Call, startAgain, takeTime, writeByte, writePaging, resetPassed, loadRam, ask, Result, result, withRam, withState, waited, helpedBy, replied, performed, timedCauses, helperRange, helperCauses, questionCauses, causesOf, refusedReply, refusedFilled}
 use Rattle.contracts.specs.Helpers.{helperCall}
 use Rattle.contracts.proofs.Refusals as refusals
 
@@ -44,7 +44,7 @@ reply-numbered (help h n) l answer = helped-numbered h n answer
 pub call-numbered : (k : Call) (l : Lent) → Numbered (performed k l .code) (causesOf k l)
 unfolding performed
 call-numbered (startAgain machine) l = refusals.start-numbered l machine
-call-numbered (timedCall t answer) l = timed-numbered t l answer
+call-numbered (takeTime t answer) l = timed-numbered t l answer
 call-numbered (writeByte addr value) l = refusals.write-internal-numbered (l .state) (l .ram) addr value
 call-numbered (writePaging value answer) l = refusals.write-7ffd-numbered (l .state) value answer
 call-numbered resetPassed l = refusals.reset-frames-numbered (l .state)
@@ -54,7 +54,7 @@ call-numbered (ask q out) l = reply-numbered q l out
 -- ---- what a refused call leaves
 module _ (l : Lent) where
   timed-refused : (t : TimedCall) (answer : List ℕ) → (waited t l answer .code ≡ 0 → ⊥)
-      → performed (timedCall t answer) l ≡ result (waited t l answer .code) l (refusedFilled (timedCall t answer) (waited t l answer .code))
+      → performed (takeTime t answer) l ≡ result (waited t l answer .code) l (refusedFilled (takeTime t answer) (waited t l answer .code))
   unfolding performed waited
   timed-refused (plain n) answer z = rw (refusals.wait-internal-unaltered l n answer z .0, refusals.wait-internal-unaltered l n answer z .1)
   timed-refused (mreq addr n) answer z = rw (refusals.wait-at-unaltered l addr n answer z .0, refusals.wait-at-unaltered l addr n answer z .1)
@@ -79,7 +79,7 @@ module _ (l : Lent) where
   pub call-refused : (k : Call) → (performed k l .code ≡ 0 → ⊥) → performed k l ≡ result (performed k l .code) l (refusedFilled k (performed k l .code))
   unfolding performed
   call-refused (startAgain machine) z = rw (refusals.start-unaltered l machine z)
-  call-refused (timedCall t answer) z = timed-refused t answer z
+  call-refused (takeTime t answer) z = timed-refused t answer z
   call-refused (writeByte addr value) z = rw (refusals.write-internal-unaltered (l .state) (l .ram) addr value z)
   call-refused (writePaging value answer) z =
       rw (refusals.write-7ffd-unaltered (l .state) value answer z .0, refusals.write-7ffd-unaltered (l .state) value answer z .1)

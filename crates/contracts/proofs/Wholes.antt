@@ -25,7 +25,7 @@ use Rattle.answers.specs.Judges.{ramFits, romFits, pictureFits, borderFits, tim
 use Rattle.answers.specs.Order.{NoneHolds}
 use Rattle.contracts.specs.Timed.{Lent, lentBy, readIo}
 use Rattle.contracts.specs.Plain.{readInternal, read7ffd, intActive, framesCount, ramPageTold, blockTold, shownTold, stillPicture, told}
-use Rattle.contracts.specs.Calls.{TimedCall, plain, mreq, noMreq, portIn, portOut, Question, byteRead, pagingRead, interruptAsked, framesAsked, pageAsked, blockAsked, shownAsked, stillAsked, help, Call, timedCall, writeByte, writePaging, resetPassed, loadRam, ask, replied, performed, timedCauses, questionCauses, causesOf, Portions, lend, lentOf, Sized}
+use Rattle.contracts.specs.Calls.{TimedCall, plain, mreq, noMreq, portIn, portOut, Question, byteRead, pagingRead, interruptAsked, framesAsked, pageAsked, blockAsked, shownAsked, stillAsked, help, Call, takeTime, writeByte, writePaging, resetPassed, loadRam, ask, replied, performed, timedCauses, questionCauses, causesOf, Portions, lend, lentOf, Sized}
 use Rattle.contracts.proofs.Lending.{portion-whole, LentWhole, lent-whole}
 
 module _ (m : ZXMachine) (w : World) (sound : SoundWorld m w) (sized : Sized m w) where

@@ -62,7 +62,7 @@ pub data Question : Type 0 where
 -- any call; the last list of one is the slice that it fills: the answer, or the still's picture
 pub data Call : Type 0 where
   startAgain : ℕ → Call
-  timedCall : TimedCall → List ℕ → Call
+  takeTime : TimedCall → List ℕ → Call
   writeByte : ℕ → ℕ → Call
   writePaging : ℕ → List ℕ → Call
   resetPassed : Call
@@ -110,7 +110,7 @@ valueOf (portOut devices port value) m = writeCode m (devicesOf devices) port va
 -- the operations of an accepted call; a second start has none
 unfoldable pub opsOf : ZXMachine → Call → Part
 opsOf m (startAgain machine) c = []
-opsOf m (timedCall t answer) c = partOf t m c
+opsOf m (takeTime t answer) c = partOf t m c
 opsOf m (writeByte addr value) c = byteWrite m addr value c
 opsOf m (writePaging value answer) c = pagingWrite m value c
 opsOf m resetPassed c = passedReset c
@@ -140,7 +140,7 @@ replied (help h n) l answer = helperCall (helpedBy h n) answer
 
 unfoldable pub performed : Call → Lent → Result
 performed (startAgain machine) l = let s = start l machine in result (s .code) (s .slices) []
-performed (timedCall t answer) l = let o = waited t l answer in result (o .code) (o .slices) (o .answer)
+performed (takeTime t answer) l = let o = waited t l answer in result (o .code) (o .slices) (o .answer)
 performed (writeByte addr value) l = let c = writeInternal (l .state) (l .ram) addr value in result (c .code) (withRam l (c .slice)) []
 performed (writePaging value answer) l = let c = write7ffdCall (l .state) value answer in result (c .code) (withState l (c .state)) (c .answer)
 performed resetPassed l = let c = resetFrames (l .state) in result (c .code) (withState l (c .slice)) []
@@ -190,7 +190,7 @@ questionCauses (help h n) l answer = helperCauses (helperRange h n) answer
 
 abbrev pub causesOf : Call → Lent → List Cause
 causesOf (startAgain machine) l = startCauses l machine
-causesOf (timedCall t answer) l = timedCauses t l answer
+causesOf (takeTime t answer) l = timedCauses t l answer
 causesOf (writeByte addr value) l = allCauses (l .state) (writeCauses (length (l .ram)))
 causesOf (writePaging value answer) l = allCauses (l .state) (toldCauses (length answer))
 causesOf resetPassed l = allCauses (l .state) noCauses
@@ -211,7 +211,7 @@ refusedReply (help h n) answer code = refusedAnswer numberLength code answer
 
 abbrev pub refusedFilled : Call → ℕ → List ℕ
 refusedFilled (startAgain machine) code = []
-refusedFilled (timedCall t answer) code = refusedAnswer timedLength code answer
+refusedFilled (takeTime t answer) code = refusedAnswer timedLength code answer
 refusedFilled (writeByte addr value) code = []
 refusedFilled (writePaging value answer) code = refusedAnswer numberLength code answer
 refusedFilled resetPassed code = []
@@ -232,11 +232,11 @@ TypedQuestion (help h n) = n < 2 ^ 32
 
 abbrev pub Typed : Call → Type 0
 Typed (startAgain machine) = machine < 2 ^ 32
-Typed (timedCall (plain n) answer) = n < 2 ^ 32
-Typed (timedCall (mreq addr n) answer) = (addr < 2 ^ 16) × (n < 2 ^ 32)
-Typed (timedCall (noMreq addr n) answer) = (addr < 2 ^ 16) × (n < 2 ^ 32)
-Typed (timedCall (portIn devices port) answer) = port < 2 ^ 16
-Typed (timedCall (portOut devices port value) answer) = (port < 2 ^ 16) × (value < 2 ^ 8)
+Typed (takeTime (plain n) answer) = n < 2 ^ 32
+Typed (takeTime (mreq addr n) answer) = (addr < 2 ^ 16) × (n < 2 ^ 32)
+Typed (takeTime (noMreq addr n) answer) = (addr < 2 ^ 16) × (n < 2 ^ 32)
+Typed (takeTime (portIn devices port) answer) = port < 2 ^ 16
+Typed (takeTime (portOut devices port value) answer) = (port < 2 ^ 16) × (value < 2 ^ 8)
 Typed (writeByte addr value) = (addr < 2 ^ 16) × (value < 2 ^ 8)
 Typed (writePaging value answer) = value < 2 ^ 8
 Typed resetPassed = Unit {0}
@@ -322,7 +322,7 @@ AllTyped cs = Each (λ c. Typed (c .call)) cs
 -- "with no second start": a start that is called again is refused
 abbrev pub NotStarted : Call → ℕ → Type 0
 NotStarted (startAgain machine) code = code ≡ 0 → ⊥
-NotStarted (timedCall t answer) code = Unit {0}
+NotStarted (takeTime t answer) code = Unit {0}
 NotStarted (writeByte addr value) code = Unit {0}
 NotStarted (writePaging value answer) code = Unit {0}
 NotStarted resetPassed code = Unit {0}

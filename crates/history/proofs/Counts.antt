@@ -10,11 +10,17 @@ use Rattle.laws.proofs.Cases.{split}
 use Rattle.machine.specs.declared.ZXMachine.{ZXMachine}
 use Rattle.machine.specs.Numbers.{specsOf}
 use Rattle.record.specs.Record.{flagByte}
-use Rattle.bus.specs.World.{Core}
-use Rattle.bus.specs.Time.{lasts, Op, step, tick, colour, silent, closes, inCore}
-use Rattle.bus.specs.Turns.{clocksOf, closedBy}
+use Rattle.memory.specs.declared.Place.{Place}
+use Rattle.memory.specs.declared.Place.the-variants as place
+use Rattle.memory.specs.declared.Paged.{Paged}
+use Rattle.memory.specs.declared.Paged.the-variants as paging
+use Rattle.bus.specs.World.{Core, World}
+use Rattle.bus.specs.Time.{lasts, Op, step, tick, colour, silent, closes, inCore, does}
+use Rattle.bus.specs.Turns.{clocksOf, blocksOf, closedBy}
+use Rattle.bus.specs.Calls.{repaged}
+use Rattle.bus.specs.Pokes.{poking}
 use Rattle.bus.proofs.OneStep.{frame-long, closes-at, core-closed, core-goes}
-use Rattle.bus.proofs.Runs.{clocksIn, closedIn}
+use Rattle.bus.proofs.Runs.{clocksIn, blocksIn, closedIn}
 use Rattle.history.proofs.Time.{Small, count}
 use Rattle.history.proofs.Operations.{AllSmall, closings}
 
@@ -64,3 +70,40 @@ module _ (m : ZXMachine) where
   unfolding closings closedIn
   closed-flag [] c h = refl
   closed-flag (o ∷ os) c h = flag-or (closedBy m o c) (closedIn m os (inCore m o c)) (closings m os (inCore m o c)) h (closed-flag os (inCore m o c))
+
+-- ---- operations that take no time and paint nothing report nothing
+abbrev pub AllSilent : List Op → Type 0
+AllSilent [] = Unit {0}
+AllSilent (step h n ∷ os) = ⊥
+AllSilent (colour k ∷ os) = ⊥
+AllSilent (silent o ∷ os) = AllSilent os
+
+pub silent-clocks : (os : List Op) → AllSilent os → clocksIn os ≡ 0
+unfolding clocksIn clocksOf
+silent-clocks [] s = refl
+silent-clocks (step h n ∷ os) s = absurd s
+silent-clocks (colour k ∷ os) s = absurd s
+silent-clocks (silent o ∷ os) s = omega (arith, silent-clocks os s)
+
+pub silent-blocks : (m : ZXMachine) (os : List Op) (w : World) → AllSilent os → blocksIn m os w ≡ 0
+unfolding blocksIn blocksOf
+silent-blocks m [] w s = refl
+silent-blocks m (step h n ∷ os) w s = absurd s
+silent-blocks m (colour k ∷ os) w s = absurd s
+silent-blocks m (silent o ∷ os) w s = omega (arith, silent-blocks m os (does m (silent o) w) s)
+
+pub silent-closings : (m : ZXMachine) (os : List Op) (c : Core) → AllSilent os → closings m os c ≡ 0
+unfolding closings closedBy
+silent-closings m [] c s = refl
+silent-closings m (step h n ∷ os) c s = absurd s
+silent-closings m (colour k ∷ os) c s = absurd s
+silent-closings m (silent o ∷ os) c s = omega (arith, silent-closings m os (inCore m (silent o) c) s)
+
+pub poke-silent : (p : Place) (value : ℕ) → AllSilent (poking p value)
+poke-silent (place.Rom at) value = tt
+poke-silent (place.Ram at) value = tt
+
+pub paged-silent : (p : Paged) → AllSilent (repaged p)
+paged-silent paging.Absent = tt
+paged-silent paging.Locked = tt
+paged-silent (paging.Taken v) = tt

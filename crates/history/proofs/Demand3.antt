@@ -2,7 +2,7 @@
 -- only in its own place and handed back untouched between calls." `demand3` below says of every such list of calls, on either machine, what
 -- specs/Demand.antt sets out sentence by sentence.
 -- Assumes nothing.
-use Prim.Native.Nat.{ℕ, _+_, _*_, _≤_}
+use Prim.Native.Nat.{ℕ, _+_, _*_}
 use mathlib.Core.Bool.{Bool, true, false, cond}
 use mathlib.Core.List.{List, [], _∷_, _++_}
 use mathlib.Core.Path.{_≡_, refl, sym, _∙_, ap, subst}
@@ -11,29 +11,23 @@ use lib.Dec.{eqb}
 use lib.ListN.{length, getD, drop}
 use Rattle.laws.proofs.Cases.{by-lt}
 use Rattle.machine.specs.declared.ZXMachine.{ZXMachine}
-use Rattle.memory.specs.declared.Place.{Place}
-use Rattle.memory.specs.declared.Place.the-variants as place
-use Rattle.memory.specs.declared.Paged.{Paged}
-use Rattle.memory.specs.declared.Paged.the-variants as paging
 use Rattle.memory.specs.Paging.{write7ffd}
 use Rattle.memory.specs.Memory.{placeOf}
 use Rattle.ports.specs.Devices.{devicesOf}
-use Rattle.bus.specs.World.{World}
+use Rattle.bus.specs.World.{Core, World}
 use Rattle.bus.specs.Time.{worldAfter}
-use Rattle.bus.specs.Turns.{clocksOf}
-use Rattle.bus.specs.Calls.{repaged}
-use Rattle.bus.specs.Pokes.{poking}
-use Rattle.bus.proofs.Runs.{clocksIn}
+use Rattle.bus.specs.Turns.{Part}
 use Rattle.bus.proofs.Kept.{SoundWorld}
 use Rattle.contracts.specs.Timed.{Lent, lentBy}
 use Rattle.contracts.specs.Plain.{shownTold}
-use Rattle.contracts.specs.Calls.{plain, mreq, noMreq, portIn, portOut, Call, startAgain, timedCall, writeByte, writePaging, resetPassed, loadRam, ask, opsOf, performed, Typed, lentOf, Sized, Made, buffersAfter, Obeyed, Each, AllTyped, NotStarted, NoSecondStart}
+use Rattle.contracts.specs.Calls.{plain, mreq, noMreq, portIn, portOut, Call, startAgain, takeTime, writeByte, writePaging, resetPassed, loadRam, ask, opsOf, performed, Typed, lentOf, Sized, Made, buffersAfter, Obeyed, Each, AllTyped, NotStarted, NoSecondStart}
 use Rattle.history.specs.Log.{follow, drawn, newest, older, Ended}
 use Rattle.history.specs.Fresh.{Fresh}
 use Rattle.history.specs.Reports.{reportedClosed, Sums, counted, summed, PortTakes}
 use Rattle.history.specs.Demand.{operations, History, goneOn, historyFrom, atStart, history, bytesAfter, lastClosed, Names, paintedTo, Demand3}
 use Rattle.history.proofs.Operations.{closings, AllSmall, Inv, ops-kept}
 use Rattle.history.proofs.Fresh.{fresh-kept, fresh-sized}
+use Rattle.history.proofs.Counts.{AllSilent, silent-clocks, poke-silent, paged-silent}
 use Rattle.history.proofs.Ends.{LeavesBorder, plain-leaves, address-leaves, short-leaves, read-leaves, write-leaves, call-ended, done-stays}
 use Rattle.history.proofs.Named.{shown-named}
 use Rattle.history.proofs.Tied.{tied, port-takes}
@@ -86,30 +80,22 @@ module _ (m : ZXMachine) (first : ℕ) where
   -- ---- the end of a call
 
   -- A call that closes a frame leaves the next one's border alone.
-  poke-few : (p : Place) (value : ℕ) → clocksIn (poking p value) ≤ 64
-  unfolding clocksIn clocksOf
-  poke-few (place.Rom at) value = omega arith
-  poke-few (place.Ram at) value = omega arith
-
-  paged-few : (p : Paged) → clocksIn (repaged p) ≤ 64
-  unfolding clocksIn clocksOf
-  paged-few paging.Absent = omega arith
-  paged-few paging.Locked = omega arith
-  paged-few (paging.Taken u) = omega arith
+  silent-leaves : (f : Part) → ((c : Core) → AllSilent (f c)) → LeavesBorder m f
+  silent-leaves f s = short-leaves m f (λ c. omega (arith, silent-clocks (f c) (s c)))
 
   leaves : (k : Call) → LeavesBorder m (opsOf m k)
-  unfolding opsOf clocksIn clocksOf
-  leaves (startAgain machine) = short-leaves m (opsOf m (startAgain machine)) (λ c. omega arith)
-  leaves (timedCall (plain n) answer) = plain-leaves m n
-  leaves (timedCall (mreq addr n) answer) = address-leaves m addr n
-  leaves (timedCall (noMreq addr n) answer) = address-leaves m addr n
-  leaves (timedCall (portIn devices port) answer) = read-leaves m port
-  leaves (timedCall (portOut devices port value) answer) = write-leaves m (devicesOf devices) port value
-  leaves (writeByte addr value) = short-leaves m (opsOf m (writeByte addr value)) (λ c. poke-few (placeOf m (c .paging) addr) value)
-  leaves (writePaging value answer) = short-leaves m (opsOf m (writePaging value answer)) (λ c. paged-few (write7ffd m (c .paging) value))
-  leaves resetPassed = short-leaves m (opsOf m resetPassed) (λ c. omega arith)
-  leaves (loadRam bytes page) = short-leaves m (opsOf m (loadRam bytes page)) (λ c. omega arith)
-  leaves (ask q out) = short-leaves m (opsOf m (ask q out)) (λ c. omega arith)
+  unfolding opsOf
+  leaves (startAgain machine) = silent-leaves (opsOf m (startAgain machine)) (λ c. tt)
+  leaves (takeTime (plain n) answer) = plain-leaves m n
+  leaves (takeTime (mreq addr n) answer) = address-leaves m addr n
+  leaves (takeTime (noMreq addr n) answer) = address-leaves m addr n
+  leaves (takeTime (portIn devices port) answer) = read-leaves m port
+  leaves (takeTime (portOut devices port value) answer) = write-leaves m (devicesOf devices) port value
+  leaves (writeByte addr value) = silent-leaves (opsOf m (writeByte addr value)) (λ c. poke-silent (placeOf m (c .paging) addr) value)
+  leaves (writePaging value answer) = silent-leaves (opsOf m (writePaging value answer)) (λ c. paged-silent (write7ffd m (c .paging) value))
+  leaves resetPassed = silent-leaves (opsOf m resetPassed) (λ c. tt)
+  leaves (loadRam bytes page) = silent-leaves (opsOf m (loadRam bytes page)) (λ c. tt)
+  leaves (ask q out) = silent-leaves (opsOf m (ask q out)) (λ c. tt)
 
   ends-by : (k : Call) (b : Bool) (h : History) (T B F : ℕ) → Inv m first T B F (h .world) (h .log) (h .shots)
       → let os = cond b (opsOf m k (h .world .core)) [] in

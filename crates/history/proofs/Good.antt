@@ -25,7 +25,7 @@ use Rattle.answers.specs.Judges.{ramFits}
 use Rattle.answers.specs.Answers.{timedLength}
 use Rattle.answers.specs.Order.{NoneHolds, FirstHolds, recordCauses}
 use Rattle.contracts.specs.Timed.{Lent, lentBy}
-use Rattle.contracts.specs.Calls.{plain, mreq, noMreq, portIn, portOut, byteRead, pagingRead, interruptAsked, framesAsked, pageAsked, blockAsked, shownAsked, stillAsked, help, Call, startAgain, timedCall, writeByte, writePaging, resetPassed, loadRam, ask, performed, waitCausesOf, causesOf, Portions, lentOf, Sized}
+use Rattle.contracts.specs.Calls.{plain, mreq, noMreq, portIn, portOut, byteRead, pagingRead, interruptAsked, framesAsked, pageAsked, blockAsked, shownAsked, stillAsked, help, Call, startAgain, takeTime, writeByte, writePaging, resetPassed, loadRam, ask, performed, waitCausesOf, causesOf, Portions, lentOf, Sized}
 use Rattle.contracts.proofs.Calls.{call-numbered}
 use Rattle.contracts.proofs.Wholes.{record-of, state-whole}
 
@@ -38,9 +38,9 @@ module _ (m : ZXMachine) (w : World) (sound : SoundWorld m w) (sized : Sized m w
 
   -- A wait of at most 65,535 clocks is accepted while passed frames have room.
   pub wait-accepted : (clocks : ℕ) (answer : List ℕ) → clocks ≤ longestWait → length answer ≡ timedLength → HasRoom (w .core .passed)
-      → performed (timedCall (plain clocks) answer) l .code ≡ 0
+      → performed (takeTime (plain clocks) answer) l .code ≡ 0
   wait-accepted clocks answer few size room =
-      call-numbered (timedCall (plain clocks) answer) l .noneIsZero none
+      call-numbered (takeTime (plain clocks) answer) l .noneIsZero none
     where
       here : recordOf (l .state) ≡ busOf m w
       here = record-of m w sound sized
@@ -108,11 +108,11 @@ module _ (m : ZXMachine) (w : World) (sound : SoundWorld m w) (sized : Sized m w
 
   first-by : (k : Call) → FirstHolds (causesOf k part) Unsound → ⊥
   first-by (startAgain machine) f = clean-first _ refl f
-  first-by (timedCall (plain k) answer) f = record-first _ refl f
-  first-by (timedCall (mreq addr k) answer) f = record-first _ refl f
-  first-by (timedCall (noMreq addr k) answer) f = record-first _ refl f
-  first-by (timedCall (portIn devices port) answer) f = record-first _ refl f
-  first-by (timedCall (portOut devices port value) answer) f = record-first _ refl f
+  first-by (takeTime (plain k) answer) f = record-first _ refl f
+  first-by (takeTime (mreq addr k) answer) f = record-first _ refl f
+  first-by (takeTime (noMreq addr k) answer) f = record-first _ refl f
+  first-by (takeTime (portIn devices port) answer) f = record-first _ refl f
+  first-by (takeTime (portOut devices port value) answer) f = record-first _ refl f
   first-by (writeByte addr value) f = record-first _ refl f
   first-by (writePaging value answer) f = record-first _ refl f
   first-by resetPassed f = record-first [] refl f

@@ -29,7 +29,7 @@ use Rattle.bus.proofs.Runs.{clocksIn, blocksIn}
 use Rattle.bus.proofs.Closing.{completed, closing-shows}
 use Rattle.answers.specs.Answers.{timedLength}
 use Rattle.contracts.specs.Timed.{Lent, lentBy}
-use Rattle.contracts.specs.Calls.{plain, timedCall, performed, Typed, lentOf, Sized, Made, Obeyed, Each, AllTyped, NotStarted, NoSecondStart}
+use Rattle.contracts.specs.Calls.{plain, takeTime, performed, Typed, lentOf, Sized, Made, Obeyed, Each, AllTyped, NotStarted, NoSecondStart}
 use Rattle.history.specs.Log.{Shot, Frame, Shows, AllShow, follow, film}
 use Rattle.history.specs.Fresh.{Fresh}
 use Rattle.history.specs.Reports.{reportedClosed}
@@ -79,10 +79,10 @@ module _ (m : ZXMachine) (w : World) (fresh : Fresh m w) (cs : List Made) (obeye
 
   -- Good input is accepted: a wait of at most 65,535 clocks, while passed frames have room. So a history can go on and complete frame after frame.
   pub good-wait : (clocks : ℕ) (answer : List ℕ) → clocks ≤ longestWait → length answer ≡ timedLength → HasRoom (history m w cs .world .core .passed)
-      → performed (timedCall (plain clocks) answer) (bytesAfter m w cs .slices) .code ≡ 0
+      → performed (takeTime (plain clocks) answer) (bytesAfter m w cs .slices) .code ≡ 0
   good-wait clocks answer few size room =
       let i = history-stands m w fresh cs obeyed typed again in
-      subst (λ (l : Lent). performed (timedCall (plain clocks) answer) l .code ≡ 0) (sym (i .slices))
+      subst (λ (l : Lent). performed (takeTime (plain clocks) answer) l .code ≡ 0) (sym (i .slices))
       (wait-accepted m (history m w cs .world) (i .sound) (i .sized) clocks answer few size room)
 
   -- ---- the record

@@ -13,30 +13,23 @@ use Rattle.laws.proofs.Cases.{cond-same}
 use Rattle.laws.proofs.Words.{word-back, long-back}
 use Rattle.machine.specs.declared.ZXMachine.{ZXMachine}
 use Rattle.record.specs.Words.{byteAt, wordAt, longAt}
-use Rattle.memory.specs.declared.Place.{Place}
-use Rattle.memory.specs.declared.Place.the-variants as place
-use Rattle.memory.specs.declared.Paged.{Paged}
-use Rattle.memory.specs.declared.Paged.the-variants as paging
 use Rattle.memory.specs.Paging.{write7ffd}
 use Rattle.memory.specs.Memory.{placeOf}
 use Rattle.ports.specs.Devices.{devicesOf}
 use Rattle.bus.specs.World.{World}
 use Rattle.bus.specs.Time.{Op, worldAfter}
-use Rattle.bus.specs.Turns.{clocksOf, blocksOf, closedBy}
-use Rattle.bus.specs.Calls.{repaged}
-use Rattle.bus.specs.Pokes.{poking}
 use Rattle.bus.proofs.Runs.{clocksIn, blocksIn}
 use Rattle.bus.proofs.PortClocks.{read-small, write-small}
 use Rattle.bus.proofs.Kept.{SoundWorld}
 use Rattle.contracts.specs.Timed.{Lent, lentBy, Outcome}
-use Rattle.contracts.specs.Calls.{TimedCall, plain, mreq, noMreq, portIn, portOut, Call, startAgain, timedCall, writeByte, writePaging, resetPassed, loadRam, ask, Result, waited, partOf, opsOf, performed, timedCauses, Typed, Portions, lentOf, handedBack, Sized, Made, buffersAfter, NotStarted}
+use Rattle.contracts.specs.Calls.{TimedCall, plain, mreq, noMreq, portIn, portOut, Call, startAgain, takeTime, writeByte, writePaging, resetPassed, loadRam, ask, Result, waited, partOf, opsOf, performed, timedCauses, Typed, Portions, lentOf, handedBack, Sized, Made, buffersAfter, NotStarted}
 use Rattle.contracts.proofs.Calls.{call-numbered}
 use Rattle.contracts.proofs.Acts.{sized-kept, Kept, timed-kept, timed-left, few-blocks, Acted, acted}
 use Rattle.contracts.proofs.AsWhole.{as-whole, as-refused}
 use Rattle.history.specs.Reports.{reported, reportedClocks, reportedBlocks, reportedClosed, PortTakes}
 use Rattle.history.specs.Demand.{operations}
 use Rattle.history.proofs.Operations.{closings, AllSmall}
-use Rattle.history.proofs.Counts.{all-small, one-closing, closed-flag}
+use Rattle.history.proofs.Counts.{all-small, one-closing, closed-flag, AllSilent, silent-clocks, silent-blocks, silent-closings, poke-silent, paged-silent}
 
 -- what a call leaves and reports, by the operations that it is
 pub record Tied (m : ZXMachine) (c : Made) (os : List Op) (w : World) : Type 0 where
@@ -57,7 +50,7 @@ record Reported (m : ZXMachine) (k : Call) (r : Result) (os : List Op) (w : Worl
 -- a refused call reports nothing
 nothing : (f : List ℕ → ℕ) (k : Call) (code : ℕ) (filled : List ℕ) → eqb code 0 ≡ false → reported f k code filled ≡ 0
 nothing f (startAgain machine) code filled e = refl
-nothing f (timedCall t answer) code filled e = rw e
+nothing f (takeTime t answer) code filled e = rw e
 nothing f (writeByte addr value) code filled e = refl
 nothing f (writePaging value answer) code filled e = refl
 nothing f resetPassed code filled e = refl
@@ -71,11 +64,11 @@ module _ (m : ZXMachine) (w : World) (sound : SoundWorld m w) (sized : Sized m w
   -- ---- what is reported, of an accepted call on the whole buffers
 
   -- the answer's bytes stand for the numbers that the operations report
-  timed-reported : (t : TimedCall) (answer : List ℕ) → Typed (timedCall t answer) → performed (timedCall t answer) l .code ≡ 0
-      → Reported m (timedCall t answer) (performed (timedCall t answer) l) (opsOf m (timedCall t answer) (w .core)) w
+  timed-reported : (t : TimedCall) (answer : List ℕ) → Typed (takeTime t answer) → performed (takeTime t answer) l .code ≡ 0
+      → Reported m (takeTime t answer) (performed (takeTime t answer) l) (opsOf m (takeTime t answer) (w .core)) w
   unfolding opsOf performed
   timed-reported t answer typed z =
-      let h = call-numbered (timedCall t answer) l .zeroByNone z in
+      let h = call-numbered (takeTime t answer) l .zeroByNone z in
       let os = partOf t m (w .core) in
       let brief = timed-kept m w sound sized t answer h typed .brief in
       let few = few-blocks m w sound sized t answer h typed in
@@ -87,39 +80,26 @@ module _ (m : ZXMachine) (w : World) (sound : SoundWorld m w) (sized : Sized m w
       })
 
   -- operations that take no time report nothing
-  record Nothing (os : List Op) : Type 0 where
-    clocks : clocksIn os ≡ 0
-    blocks : blocksIn m os w ≡ 0
-    closed : closings m os (w .core) ≡ 0
-
-  none : Nothing []
-  unfolding clocksIn blocksIn closings
-  none = record { clocks = refl; blocks = refl; closed = refl }
-
-  poke-nothing : (p : Place) (value : ℕ) → Nothing (poking p value)
-  unfolding clocksIn blocksIn closings clocksOf blocksOf closedBy
-  poke-nothing (place.Rom at) value = none
-  poke-nothing (place.Ram at) value = record { clocks = refl; blocks = refl; closed = refl }
-
-  paged-nothing : (p : Paged) → Nothing (repaged p)
-  unfolding clocksIn blocksIn closings clocksOf blocksOf closedBy
-  paged-nothing paging.Absent = none
-  paged-nothing paging.Locked = none
-  paged-nothing (paging.Taken u) = record { clocks = refl; blocks = refl; closed = refl }
+  silent-reported : (k : Call) (os : List Op) → AllSilent os → ((f : List ℕ → ℕ) (code : ℕ) (filled : List ℕ) → reported f k code filled ≡ 0)
+      → Reported m k (performed k l) os w
+  silent-reported k os s none =
+      record {
+        clocks = none _ _ _ ∙ sym (silent-clocks os s);
+        blocks = none _ _ _ ∙ sym (silent-blocks m os w s);
+        closed = none _ _ _ ∙ sym (silent-closings m os (w .core) s);
+      }
 
   all-reported : (k : Call) → NotStarted k 0 → Typed k → performed k l .code ≡ 0 → Reported m k (performed k l) (opsOf m k (w .core)) w
-  unfolding opsOf clocksIn blocksIn closings clocksOf blocksOf closedBy
+  unfolding opsOf
   all-reported (startAgain machine) first typed z = absurd (first refl)
-  all-reported (timedCall t answer) first typed z = timed-reported t answer typed z
+  all-reported (takeTime t answer) first typed z = timed-reported t answer typed z
   all-reported (writeByte addr value) first typed z =
-      let q = poke-nothing (placeOf m (w .core .paging) addr) value in
-      record { clocks = sym (q .clocks); blocks = sym (q .blocks); closed = sym (q .closed) }
+      silent-reported (writeByte addr value) _ (poke-silent (placeOf m (w .core .paging) addr) value) (λ f code filled. refl)
   all-reported (writePaging value answer) first typed z =
-      let q = paged-nothing (write7ffd m (w .core .paging) value) in
-      record { clocks = sym (q .clocks); blocks = sym (q .blocks); closed = sym (q .closed) }
-  all-reported resetPassed first typed z = record { clocks = refl; blocks = refl; closed = refl }
-  all-reported (loadRam bytes page) first typed z = record { clocks = refl; blocks = refl; closed = refl }
-  all-reported (ask q out) first typed z = record { clocks = refl; blocks = refl; closed = refl }
+      silent-reported (writePaging value answer) _ (paged-silent (write7ffd m (w .core .paging) value)) (λ f code filled. refl)
+  all-reported resetPassed first typed z = silent-reported resetPassed _ tt (λ f code filled. refl)
+  all-reported (loadRam bytes page) first typed z = silent-reported (loadRam bytes page) _ tt (λ f code filled. refl)
+  all-reported (ask q out) first typed z = silent-reported (ask q out) [] tt (λ f code filled. refl)
 
   module _ (n : Portions) where
     -- a call that was made as its definition says
@@ -180,12 +160,12 @@ module _ (m : ZXMachine) (w : World) (sound : SoundWorld m w) (sized : Sized m w
   port-by : (k : Call) (c : Made) → c .call ≡ k → Tied m c (operations m c (w .core)) w → PortTakes k c
   unfolding opsOf
   port-by (startAgain machine) c e t = tt
-  port-by (timedCall (plain n) answer) c e t = tt
-  port-by (timedCall (mreq addr n) answer) c e t = tt
-  port-by (timedCall (noMreq addr n) answer) c e t = tt
-  port-by (timedCall (portIn devices port) answer) c e t = λ z.
+  port-by (takeTime (plain n) answer) c e t = tt
+  port-by (takeTime (mreq addr n) answer) c e t = tt
+  port-by (takeTime (noMreq addr n) answer) c e t = tt
+  port-by (takeTime (portIn devices port) answer) c e t = λ z.
       rw (t .clocks, z, e) (read-small m port (w .core))
-  port-by (timedCall (portOut devices port value) answer) c e t = λ z.
+  port-by (takeTime (portOut devices port value) answer) c e t = λ z.
       rw (t .clocks, z, e) (write-small m (devicesOf devices) port value (w .core))
   port-by (writeByte addr value) c e t = tt
   port-by (writePaging value answer) c e t = tt

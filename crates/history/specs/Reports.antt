@@ -7,12 +7,12 @@ use mathlib.Core.Path.{_≡_}
 use lib.Dec.{eqb}
 use Rattle.record.specs.Words.{byteAt, wordAt, longAt}
 use Rattle.contracts.specs.Timed.{Lent}
-use Rattle.contracts.specs.Calls.{plain, mreq, noMreq, portIn, portOut, Call, startAgain, timedCall, writeByte, writePaging, resetPassed, loadRam, ask, Made, buffersAfter}
+use Rattle.contracts.specs.Calls.{plain, mreq, noMreq, portIn, portOut, Call, startAgain, takeTime, writeByte, writePaging, resetPassed, loadRam, ask, Made, buffersAfter}
 
 -- "Clocks reported", "Blocks reported": those of the answer's bytes, of an accepted timed call; no other call reports any
 abbrev pub reported : (List ℕ → ℕ) → Call → ℕ → List ℕ → ℕ
 reported f (startAgain machine) code filled = 0
-reported f (timedCall t answer) code filled = cond (eqb code 0) (f filled) 0
+reported f (takeTime t answer) code filled = cond (eqb code 0) (f filled) 0
 reported f (writeByte addr value) code filled = 0
 reported f (writePaging value answer) code filled = 0
 reported f resetPassed code filled = 0
@@ -54,11 +54,11 @@ FourToSixteen c = c .result .code ≡ 0 → (4 ≤ reportedClocks c) × (reporte
 
 abbrev pub PortTakes : Call → Made → Type 0
 PortTakes (startAgain machine) c = Unit {0}
-PortTakes (timedCall (plain n) answer) c = Unit {0}
-PortTakes (timedCall (mreq addr n) answer) c = Unit {0}
-PortTakes (timedCall (noMreq addr n) answer) c = Unit {0}
-PortTakes (timedCall (portIn devices port) answer) c = FourToSixteen c
-PortTakes (timedCall (portOut devices port value) answer) c = FourToSixteen c
+PortTakes (takeTime (plain n) answer) c = Unit {0}
+PortTakes (takeTime (mreq addr n) answer) c = Unit {0}
+PortTakes (takeTime (noMreq addr n) answer) c = Unit {0}
+PortTakes (takeTime (portIn devices port) answer) c = FourToSixteen c
+PortTakes (takeTime (portOut devices port value) answer) c = FourToSixteen c
 PortTakes (writeByte addr value) c = Unit {0}
 PortTakes (writePaging value answer) c = Unit {0}
 PortTakes resetPassed c = Unit {0}

@@ -1,2 +1,3 @@
 pub mod Obeyed
+pub mod Possible
 pub mod Demands

@@ -7,7 +7,7 @@ use mathlib.Core.Path.{_≡_, refl, sym, _∙_, ap}
 use contract.Lifetimes.{Lfts}
 use Rattle.contracts.specs.Timed.{Lent, lent, Outcome, outcome, start}
 use Rattle.contracts.specs.Plain.{told, Changed, Repaged}
-use Rattle.contracts.specs.Calls.{plain, mreq, noMreq, portIn, portOut, Helper, lineAddr, lineOf, columnOf, attrRowOf, attrColumnOf, colorOf, Question, byteRead, pagingRead, interruptAsked, framesAsked, pageAsked, blockAsked, shownAsked, stillAsked, help, Call, startAgain, timedCall, writeByte, writePaging, resetPassed, loadRam, ask, Result, result, withRam, withState, waited, helpedBy, replied, performed, TypedQuestion, Typed, lentOf, Made, buffersAfter, Obeyed, AllTyped}
+use Rattle.contracts.specs.Calls.{plain, mreq, noMreq, portIn, portOut, Helper, lineAddr, lineOf, columnOf, attrRowOf, attrColumnOf, colorOf, Question, byteRead, pagingRead, interruptAsked, framesAsked, pageAsked, blockAsked, shownAsked, stillAsked, help, Call, startAgain, takeTime, writeByte, writePaging, resetPassed, loadRam, ask, Result, result, withRam, withState, waited, helpedBy, replied, performed, TypedQuestion, Typed, lentOf, Made, buffersAfter, Obeyed, AllTyped}
 use Rattle.contracts.specs.Helpers.{helperCall}
 use Rattle.runs.specs.Run.{Slice, slice, Where, HelperAdmits, Replies, Steps, Run, Begins}
 
@@ -33,11 +33,11 @@ ask-range (help h n) at l out code filled s = help-range h (s .0) n (slice at 0 
 
 in-range : (k : Call) (at : ℕ → Where) (l : Lent) (r : Result) → Steps k at l r → Typed k
 in-range (startAgain machine) at l r s = s .1 .0 .1 .1 .1 .1 .1 .0 .1
-in-range (timedCall (plain n) answer) at l r s = s .1 .0 .1 .1 .1 .1 .1 .0 .1
-in-range (timedCall (mreq addr n) answer) at l r s = (s .1 .0 .1 .1 .1 .1 .1 .0 .1, s .1 .0 .1 .1 .1 .1 .1 .1 .0 .1)
-in-range (timedCall (noMreq addr n) answer) at l r s = (s .1 .0 .1 .1 .1 .1 .1 .0 .1, s .1 .0 .1 .1 .1 .1 .1 .1 .0 .1)
-in-range (timedCall (portIn devices port) answer) at l r s = s .1 .0 .1 .1 .1 .1 .1 .1 .0 .1
-in-range (timedCall (portOut devices port value) answer) at l r s = (s .1 .0 .1 .1 .1 .1 .1 .1 .0 .1, s .1 .0 .1 .1 .1 .1 .1 .1 .1 .0 .1)
+in-range (takeTime (plain n) answer) at l r s = s .1 .0 .1 .1 .1 .1 .1 .0 .1
+in-range (takeTime (mreq addr n) answer) at l r s = (s .1 .0 .1 .1 .1 .1 .1 .0 .1, s .1 .0 .1 .1 .1 .1 .1 .1 .0 .1)
+in-range (takeTime (noMreq addr n) answer) at l r s = (s .1 .0 .1 .1 .1 .1 .1 .0 .1, s .1 .0 .1 .1 .1 .1 .1 .1 .0 .1)
+in-range (takeTime (portIn devices port) answer) at l r s = s .1 .0 .1 .1 .1 .1 .1 .1 .0 .1
+in-range (takeTime (portOut devices port value) answer) at l r s = (s .1 .0 .1 .1 .1 .1 .1 .1 .0 .1, s .1 .0 .1 .1 .1 .1 .1 .1 .1 .0 .1)
 in-range (writeByte addr value) at l r s = (s .1 .0 .1 .1 .0 .1, s .1 .0 .1 .1 .1 .0 .1)
 in-range (writePaging value answer) at l r s = s .1 .0 .1 .0 .1
 in-range resetPassed at l r s = tt
@@ -78,11 +78,11 @@ timed-is r l o e p =
 step-is : (k : Call) (at : ℕ → Where) (l : Lent) (r : Result) → Steps k at l r → r ≡ performed k l
 unfolding performed waited
 step-is (startAgain machine) at l r s = λ i. result (s .1 .1 i .code) (s .1 .1 i .slices) (s .2 i)
-step-is (timedCall (plain n) answer) at l r s = timed-is r l _ (s .2) (s .1 .1)
-step-is (timedCall (mreq addr n) answer) at l r s = timed-is r l _ (s .2) (s .1 .1)
-step-is (timedCall (noMreq addr n) answer) at l r s = timed-is r l _ (s .2) (s .1 .1)
-step-is (timedCall (portIn devices port) answer) at l r s = timed-is r l _ (s .2) (s .1 .1)
-step-is (timedCall (portOut devices port value) answer) at l r s = timed-is r l _ (s .2) (s .1 .1)
+step-is (takeTime (plain n) answer) at l r s = timed-is r l _ (s .2) (s .1 .1)
+step-is (takeTime (mreq addr n) answer) at l r s = timed-is r l _ (s .2) (s .1 .1)
+step-is (takeTime (noMreq addr n) answer) at l r s = timed-is r l _ (s .2) (s .1 .1)
+step-is (takeTime (portIn devices port) answer) at l r s = timed-is r l _ (s .2) (s .1 .1)
+step-is (takeTime (portOut devices port value) answer) at l r s = timed-is r l _ (s .2) (s .1 .1)
 step-is (writeByte addr value) at l r s =
     (λ i. result (r .code) (s .2 i) (s .3 i)) ∙ ap (λ (c : Changed). result (c .code) (withRam l (c .slice)) []) (s .1 .1)
 step-is (writePaging value answer) at l r s =

@@ -11,7 +11,7 @@ use denote.Ref.{RefT}
 use denote.Triple.Clauses.{AtExit}
 use borrow.Fn.Kinds.{PK, RK, Out, Dens, GoodsP, resT, endedOf}
 use Rattle.contracts.specs.Timed.{Lent}
-use Rattle.contracts.specs.Calls.{plain, mreq, noMreq, portIn, portOut, Helper, lineAddr, lineOf, columnOf, attrRowOf, attrColumnOf, colorOf, Question, byteRead, pagingRead, interruptAsked, framesAsked, pageAsked, blockAsked, shownAsked, stillAsked, help, Call, startAgain, timedCall, writeByte, writePaging, resetPassed, loadRam, ask, Result, result, withRam, withState, lentOf, Made, buffersAfter}
+use Rattle.contracts.specs.Calls.{plain, mreq, noMreq, portIn, portOut, Helper, lineAddr, lineOf, columnOf, attrRowOf, attrColumnOf, colorOf, Question, byteRead, pagingRead, interruptAsked, framesAsked, pageAsked, blockAsked, shownAsked, stillAsked, help, Call, startAgain, takeTime, writeByte, writePaging, resetPassed, loadRam, ask, Result, result, withRam, withState, lentOf, Made, buffersAfter}
 use Rattle.ulb_start.proofs.ulb_start.Reads as ulb-start
 use Rattle.ulb_start.proofs.ulb_start.Kinds as kinds-start
 use Rattle.ulb_wait_internal.proofs.ulb_wait_internal.Reads as ulb-wait-internal
@@ -148,27 +148,27 @@ Steps (startAgain machine) at l r =
     (five at l (machine & tt)) (r .code)
     (five at (r .slices) (machine & tt))
     × (r .filled ≡ [])
-Steps (timedCall (plain n) answer) at l r =
+Steps (takeTime (plain n) answer) at l r =
     (κs : Lfts 6) × Admits 6 kinds-wait-internal.ps kinds-wait-internal.r ulb-wait-internal.Post κs
     (five at l (n & slice at 5 answer & tt)) (r .code)
     (five at (r .slices) (n & slice at 5 (r .filled) & tt))
     × (r .slices .ram ≡ l .ram)
-Steps (timedCall (mreq addr n) answer) at l r =
+Steps (takeTime (mreq addr n) answer) at l r =
     (κs : Lfts 6) × Admits 6 kinds-wait-mreq.ps kinds-wait-mreq.r ulb-wait-mreq.Post κs
     (five at l (addr & n & slice at 5 answer & tt)) (r .code)
     (five at (r .slices) (addr & n & slice at 5 (r .filled) & tt))
     × (r .slices .ram ≡ l .ram)
-Steps (timedCall (noMreq addr n) answer) at l r =
+Steps (takeTime (noMreq addr n) answer) at l r =
     (κs : Lfts 6) × Admits 6 kinds-wait-no-mreq.ps kinds-wait-no-mreq.r ulb-wait-no-mreq.Post κs
     (five at l (addr & n & slice at 5 answer & tt)) (r .code)
     (five at (r .slices) (addr & n & slice at 5 (r .filled) & tt))
     × (r .slices .ram ≡ l .ram)
-Steps (timedCall (portIn devices port) answer) at l r =
+Steps (takeTime (portIn devices port) answer) at l r =
     (κs : Lfts 7) × Admits 7 kinds-read-io.ps kinds-read-io.r ulb-read-io.Post κs
     (six at devices l (port & slice at 6 answer & tt)) (r .code)
     (six at devices (r .slices) (port & slice at 6 (r .filled) & tt))
     × (r .slices .ram ≡ l .ram)
-Steps (timedCall (portOut devices port value) answer) at l r =
+Steps (takeTime (portOut devices port value) answer) at l r =
     (κs : Lfts 7) × Admits 7 kinds-write-io.ps kinds-write-io.r ulb-write-io.Post κs
     (six at devices l (port & value & slice at 6 answer & tt)) (r .code)
     (six at devices (r .slices) (port & value & slice at 6 (r .filled) & tt))

@@ -31,7 +31,7 @@ use Rattle.answers.proofs.Order.{state-ordered, wait-ordered, port-ordered, tol
 use Rattle.contracts.specs.Timed.{Lent, lentBy, Outcome, lentWorld, judgeWaitOf, judgePortOf, start}
 use Rattle.contracts.specs.Plain.{Told, told, stillPage, stillPicture}
 use Rattle.contracts.specs.Helpers.{helperCall}
-use Rattle.contracts.specs.Calls.{TimedCall, plain, mreq, noMreq, portIn, portOut, Helper, lineAddr, lineOf, columnOf, attrRowOf, attrColumnOf, colorOf, Question, byteRead, pagingRead, interruptAsked, framesAsked, pageAsked, blockAsked, shownAsked, stillAsked, help, Call, startAgain, timedCall, writeByte, writePaging, resetPassed, loadRam, ask, Result, result, withRam, withState, waited, opsOf, helpedBy, replied, performed, timedCauses, questionCauses, causesOf, refusedFilled, Typed, lentOf, handedBack, Sized, Made, buffersAfter, Obeyed, AllTyped, NotStarted, NoSecondStart}
+use Rattle.contracts.specs.Calls.{TimedCall, plain, mreq, noMreq, portIn, portOut, Helper, lineAddr, lineOf, columnOf, attrRowOf, attrColumnOf, colorOf, Question, byteRead, pagingRead, interruptAsked, framesAsked, pageAsked, blockAsked, shownAsked, stillAsked, help, Call, startAgain, takeTime, writeByte, writePaging, resetPassed, loadRam, ask, Result, result, withRam, withState, waited, opsOf, helpedBy, replied, performed, timedCauses, questionCauses, causesOf, refusedFilled, Typed, lentOf, handedBack, Sized, Made, buffersAfter, Obeyed, AllTyped, NotStarted, NoSecondStart}
 use Rattle.contracts.proofs.Calls.{call-numbered, call-refused}
 use Rattle.contracts.proofs.Acts.{sized-kept, start-left, start-sized, acted}
 use Rattle.contracts.proofs.AsWhole.{as-whole, as-refused}
@@ -105,7 +105,7 @@ module _ (rom : List ℕ) (c : ZXController) (l : Lent) (s : SameLent rom c l) w
   ended k g e = record { given = g; ends = e; then = refl }
 
   -- ONE TIMED CALL, accepted.
-  timed-same : (t : TimedCall) (answer : List ℕ) → Typed (timedCall t answer) → NoneHolds (timedCauses t l answer)
+  timed-same : (t : TimedCall) (answer : List ℕ) → Typed (takeTime t answer) → NoneHolds (timedCauses t l answer)
       → SameTimed rom (rustTimed t) (ValueOf t) c (waited t l answer)
   unfolding waited
   timed-same (plain n) answer typed h = wait-same l bus rom c (here .machine) (here .related) n answer (wait-ordered (l .state) (length (l .ram)) (length (l .a)) (length (l .b)) (length (l .border)) n (length answer) .noneAccepts h)
@@ -177,7 +177,7 @@ module _ (rom : List ℕ) (c : ZXController) (l : Lent) (s : SameLent rom c l) w
   pub one-call : (k : Call) → NotStarted k 0 → Typed k → OwnRom rom k → NoneHolds (causesOf k l) → SameCall rom k c l (performed k l)
   unfolding performed
   one-call (startAgain machine) first typed its h = absurd (first refl)
-  one-call (timedCall t answer) first typed its h =
+  one-call (takeTime t answer) first typed its h =
       let x = timed-same t answer typed h in
       record { next = x .given .controller; answer = (x, ended _ (x .given) (x .ends)); leaves = timed-call _ _ _ x }
   one-call (writeByte addr value) first typed its h =

@@ -14,7 +14,7 @@ use Rattle.record.specs.Record.{recordOf}
 use Rattle.answers.specs.Order.{Numbered}
 use Rattle.contracts.specs.Timed.{Lent, outcome}
 use Rattle.contracts.specs.Plain.{Told, told, stillPage}
-use Rattle.contracts.specs.Calls.{TimedCall, plain, mreq, noMreq, portIn, portOut, Helper, lineAddr, lineOf, columnOf, attrRowOf, attrColumnOf, colorOf, Question, byteRead, pagingRead, interruptAsked, framesAsked, pageAsked, blockAsked, shownAsked, stillAsked, help, Call, startAgain, timedCall, writeByte, writePaging, resetPassed, loadRam, ask, Result, result, causesOf, refusedFilled, lentOf, Made, buffersAfter, Each}
+use Rattle.contracts.specs.Calls.{TimedCall, plain, mreq, noMreq, portIn, portOut, Helper, lineAddr, lineOf, columnOf, attrRowOf, attrColumnOf, colorOf, Question, byteRead, pagingRead, interruptAsked, framesAsked, pageAsked, blockAsked, shownAsked, stillAsked, help, Call, startAgain, takeTime, writeByte, writePaging, resetPassed, loadRam, ask, Result, result, causesOf, refusedFilled, lentOf, Made, buffersAfter, Each}
 use Rattle.rustzx.specs.Panics.{Run, done, andThen}
 use Rattle.rustzx.specs.Controller.{ZXController}
 use Rattle.rustzx.specs.Calls as rust
@@ -70,7 +70,7 @@ SameReply rom (help h n) c next l t = SameHelp (rustHelper h n) t × (next ≡ c
 -- what the Rust says of an accepted call on the buffers l: r has the number, the buffers afterwards and the answer. A second start is none.
 abbrev pub SameAnswer : List ℕ → Call → ZXController → ZXController → Lent → Result → Type 0
 SameAnswer rom (startAgain machine) c next l r = ⊥
-SameAnswer rom (timedCall t answer) c next l r =
+SameAnswer rom (takeTime t answer) c next l r =
     SameTimed rom (rustTimed t) (ValueOf t) c (outcome (r .code) (r .slices) (r .filled)) × Ends (rustTimed t) c next
 SameAnswer rom (writeByte addr value) c next l r = Ends (rust.writeInternal addr value) c next
 SameAnswer rom (writePaging value answer) c next l r = SameTold (rust.write7ffd value) c (told (r .code) (r .filled)) × Ends (rust.write7ffd value) c next
@@ -116,7 +116,7 @@ OwnRomAsked rom (help h n) = Unit {0}
 
 abbrev pub OwnRom : List ℕ → Call → Type 0
 OwnRom rom (startAgain machine) = Unit {0}
-OwnRom rom (timedCall t answer) = Unit {0}
+OwnRom rom (takeTime t answer) = Unit {0}
 OwnRom rom (writeByte addr value) = Unit {0}
 OwnRom rom (writePaging value answer) = Unit {0}
 OwnRom rom resetPassed = Unit {0}
