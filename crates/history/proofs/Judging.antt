@@ -22,11 +22,11 @@ use Rattle.record.proofs.Round.{held-encode}
 use Rattle.machine.specs.Timing.{interrupt}
 use Rattle.memory.specs.declared.Page.the-variants as page
 use Rattle.memory.specs.Paging.{pageAt}
-use Rattle.memory.specs.Memory.{byteAt, poked, ramPage, partStart, loaded}
+use Rattle.memory.specs.Memory.{peeked, poked, ramPage, partStart, loaded}
 use Rattle.screen.specs.declared.Helped.{Helped}
 use Rattle.screen.specs.declared.Helped.the-variants as helped
 use Rattle.screen.specs.Address.{lineAddress, lineAt, columnAt, attributeRow, attributeColumn}
-use Rattle.screen.specs.Color.{fromBits}
+use Rattle.screen.specs.Colour.{fromBits}
 use Rattle.paint.specs.Paint.{blocks}
 use Rattle.bus.specs.Time.{showsA}
 use Rattle.bus.specs.World.{Core, World, busOf, clearPicture, clearBorder}
@@ -39,9 +39,9 @@ use Rattle.answers.specs.declared.Verdict.the-variants.{Refused, Accepted}
 use Rattle.answers.specs.Refusals.{refusalNumber, Cause, judged, judgedHeld, judge}
 use Rattle.answers.specs.Judges as judges
 use Rattle.answers.specs.Judges.{numberFits, lentFit, judgeWait, judgePort, judgeState, judgeTold, judgeRead, judgeWrite, judgeLoad, judgeRamPage, judgeBlock, judgeShown, judgeStill}
-use Rattle.contracts.specs.Timed.{Lent, lentBy, timed, Started, start, waitInternal, waitAt, readIo, writeIo}
+use Rattle.contracts.specs.Timed.{Lent, lentBy, timedCall, Started, start, waitInternal, waitAt, readIo, writeIo}
 use Rattle.contracts.specs.Plain.{Told, codeOf, tell, change, repage, stillPage, readInternal, writeInternal, write7ffdCall, read7ffd, intActive, framesCount, resetFrames, loadPage, stillPicture, ramPageTold, blockTold, shownTold}
-use Rattle.contracts.specs.Helpers.{help, helperCall, colorHelped, bitmapLineAddr, bitmapLineRel, bitmapColRel, attrRowRel, attrColRel, colorFromBits}
+use Rattle.contracts.specs.Helpers.{help, helperCall, colourHelped, bitmapLineAddr, bitmapLineRel, bitmapColRel, attrRowRel, attrColRel, colorFromBits}
 use Rattle.history.specs.Calls.{Loan, lend, Lens, lentOf, Kind, startAgain, plain, mreq, noMreq, portIn, portOut, readByte, writeByte, writePaging, readPaging, askInterrupt, askFrames, resetPassed, loadRam, askPage, askBlock, askShown, still, helpLineAddr, helpLine, helpColumn, helpAttrRow, helpAttrColumn, helpColor, performed, called}
 use Rattle.history.specs.Demand.{blind}
 use Rattle.history.proofs.Operations.{picture-size, border-size}
@@ -156,8 +156,8 @@ codeBy (helping code) l = code
 
 -- the code of what each shape of call leaves is that of its verdict
 timed-code : (f : ZXMachine → Part) (value : ZXMachine → Core → ℕ) (l : Lent) (answer : List ℕ) (v : Verdict)
-    → timed f value l answer v .code ≡ codeOf v
-unfolding timed
+    → timedCall f value l answer v .code ≡ codeOf v
+unfolding timedCall
 timed-code f value l answer (Refused e) = refl
 timed-code f value l answer (Accepted bus) = refl
 
@@ -189,7 +189,7 @@ code-is (noMreq addr n answer) l = timed-code _ _ l answer _
 code-is (portIn devices port answer) l = timed-code _ _ l answer _
 code-is (portOut devices port value answer) l = timed-code _ _ l answer _
 code-is (readByte rom addr answer) l =
-    tell-code (λ bus. byteAt (bus .machine) (bus .paging) rom (l .ram) addr) answer (verdictBy (readCauses rom answer) l)
+    tell-code (λ bus. peeked (bus .machine) (bus .paging) rom (l .ram) addr) answer (verdictBy (readCauses rom answer) l)
 code-is (writeByte addr value) l =
     change-code (λ bus. poked (bus .machine) (bus .paging) (l .ram) addr value) (l .ram) (verdictBy writeCauses l)
 code-is (writePaging value answer) l = repage-code value (l .state) answer (verdictBy (toldCauses answer) l)
@@ -436,7 +436,7 @@ clean-way (helpLine n answer) = helper-clean (lineAt n) answer
 clean-way (helpColumn n answer) = helper-clean (columnAt n) answer
 clean-way (helpAttrRow n answer) = helper-clean (attributeRow n) answer
 clean-way (helpAttrColumn n answer) = helper-clean (attributeColumn n) answer
-clean-way (helpColor n answer) = helper-clean (colorHelped (fromBits n)) answer
+clean-way (helpColor n answer) = helper-clean (colourHelped (fromBits n)) answer
 
 start-never : (wrong fits : Bool) → startNumber wrong fits ≡ 3 → ⊥
 start-never true fits e = omega arith

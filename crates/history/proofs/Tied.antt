@@ -43,7 +43,7 @@ use Rattle.answers.specs.declared.Verdict.{Verdict}
 use Rattle.answers.specs.declared.Verdict.the-variants.{Refused, Accepted}
 use Rattle.answers.specs.Judges.{pictureFits, borderFits, timedFits, judgeWait, judgePort, judgeState, judgeTold, judgeWrite, judgeLoad}
 use Rattle.answers.specs.Answers.{timedAnswer}
-use Rattle.contracts.specs.Timed.{Lent, lentBy, Outcome, timed, timedEnd, noValue, Started, start, waitInternal, waitAt, readIo, writeIo}
+use Rattle.contracts.specs.Timed.{Lent, lentBy, Outcome, timedCall, timedEnd, noValue, Started, start, waitInternal, waitAt, readIo, writeIo}
 use Rattle.contracts.specs.Plain.{codeOf, change, repage, writeInternal, write7ffdCall, resetFrames, loadPage}
 use Rattle.history.specs.Calls.{lend, Lens, lentOf, handedBack, Kind, startAgain, plain, mreq, noMreq, portIn, portOut, readByte, writeByte, writePaging, readPaging, askInterrupt, askFrames, resetPassed, loadRam, askPage, askBlock, askShown, still, helpLineAddr, helpLine, helpColumn, helpAttrRow, helpAttrColumn, helpColor, Left, ofOutcome, withRam, withState, performed, called, reportedClocks, reportedBlocks, reportedClosed, Typed, NoStart, PortTakes}
 use Rattle.bus.specs.Pokes.{poking}
@@ -70,8 +70,8 @@ back n l out = record { code = out .code; slices = handedBack n l (out .slices);
 -- ---- a refused call
 
 timed-leaves : (f : ZXMachine → Part) (value : ZXMachine → Core → ℕ) (l : Lent) (answer : List ℕ) (v : Verdict)
-    → (timed f value l answer v .code ≡ 0 → ⊥) → timed f value l answer v .slices ≡ l
-unfolding timed
+    → (timedCall f value l answer v .code ≡ 0 → ⊥) → timedCall f value l answer v .slices ≡ l
+unfolding timedCall
 timed-leaves f value l answer (Refused e) h = refl
 timed-leaves f value l answer (Accepted bus) h = absurd (h refl)
 
@@ -194,15 +194,15 @@ module _ (m : ZXMachine) (w : World) (sound : SoundWorld m w) (sized : Sized m w
 
     -- an accepted timed call, lent its five slices whole
     timed-tied : (f : ZXMachine → Part) (value : ZXMachine → Core → ℕ) (answer : List ℕ) (v : Verdict) → v ≡ Accepted (busOf m w) → LentWhole n l
-        → Timed m (f m) → HasRoom (w .core .passed) → Tied m (back n l (ofOutcome (timed f value (lentOf n l) answer v))) (f m (w .core)) w
-    unfolding timed
+        → Timed m (f m) → HasRoom (w .core .passed) → Tied m (back n l (ofOutcome (timedCall f value (lentOf n l) answer v))) (f m (w .core)) w
+    unfolding timedCall
     timed-tied f value answer v e whole t room =
         let os = f m (w .core) in
         let kept = timed-kept (f m) t room in
-        let done : timed f value (lentOf n l) answer v ≡ timedEnd (ran os (fresh m w)) (value m (w .core)) =
-        ap (timed f value (lentOf n l) answer) e
-        ∙ ap (λ (x : Lent). timed f value x answer (Accepted (busOf m w))) (lent-whole n l whole) in
-        let left : back n l (ofOutcome (timed f value (lentOf n l) answer v)) ≡ leftBy os (value m (w .core)) =
+        let done : timedCall f value (lentOf n l) answer v ≡ timedEnd (ran os (fresh m w)) (value m (w .core)) =
+        ap (timedCall f value (lentOf n l) answer) e
+        ∙ ap (λ (x : Lent). timedCall f value x answer (Accepted (busOf m w))) (lent-whole n l whole) in
+        let left : back n l (ofOutcome (timedCall f value (lentOf n l) answer v)) ≡ leftBy os (value m (w .core)) =
         ap (λ (o : Outcome). back n l (ofOutcome o)) (done ∙ ap (λ (x : Turn). timedEnd x (value m (w .core))) (ran-is os (fresh m w)))
         ∙ ap (λ (s : Lent). record { code = 0; slices = s; timed = leftBy os (value m (w .core)) .timed })
         (handed-whole n m w (worldAfter m os w) whole (kept .lengths)) in

@@ -26,8 +26,8 @@ abbrev pub byteIn : Place → List ℕ → List ℕ → ℕ
 byteIn (Rom at) rom ram = getD rom at 0
 byteIn (Ram at) rom ram = getD ram at 0
 
-abbrev pub byteAt : ZXMachine → ℕ → List ℕ → List ℕ → ℕ → ℕ
-byteAt m paging rom ram addr = byteIn (placeOf m paging addr) rom ram
+abbrev pub peeked : ZXMachine → ℕ → List ℕ → List ℕ → ℕ → ℕ
+peeked m paging rom ram addr = byteIn (placeOf m paging addr) rom ram
 
 -- "byte … write": RAM afterwards. "ROM writes vanish."
 abbrev pub pokedIn : Place → List ℕ → ℕ → List ℕ
