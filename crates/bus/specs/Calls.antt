@@ -10,7 +10,7 @@ use Rattle.machine.specs.Contended.{portContended}
 use Rattle.memory.specs.declared.Paged.{Paged}
 use Rattle.memory.specs.declared.Paged.the-variants as paging
 use Rattle.memory.specs.Paging.{addrContended, write7ffd, pagedCode}
-use Rattle.memory.specs.Memory.{byteAt}
+use Rattle.memory.specs.Memory.{peeked}
 use Rattle.ports.specs.declared.Devices.{Devices}
 use Rattle.ports.specs.declared.Answer.{Answer}
 use Rattle.ports.specs.declared.Answer.the-variants as answer
@@ -70,7 +70,7 @@ portRead m port = andThen m (readBefore m port) finalStep
 -- the byte at an address of the floating bus, which is never in ROM, so that none is lent; FFh where nothing is fetched
 abbrev pub floatingByte : ZXMachine → FloatingAddress → Core → ℕ
 floatingByte m floating.Idle c = 0xFF
-floatingByte m (floating.At addr) c = byteAt m (c .paging) [] (c .ram) addr
+floatingByte m (floating.At addr) c = peeked m (c .paging) [] (c .ram) addr
 
 unfoldable pub floatingBus : ZXMachine → Core → ℕ
 floatingBus m c = floatingByte m (floatingAddress (floatingPlace (specsOf m) (c .clock))) c

@@ -7,7 +7,7 @@ ghost use Prim.Native.Nat.{ℕ, _+_, _<_};
 ghost use lib.ListN.{length};
 ghost use Rattle.machine.specs.Numbers.{specsOf};
 ghost use Rattle.memory.specs.Paging.{write7ffd, pagedCode};
-ghost use Rattle.memory.specs.Memory.{byteAt};
+ghost use Rattle.memory.specs.Memory.{peeked};
 ghost use Rattle.bus.specs.Time.{tick};
 ghost use Rattle.bus.specs.Turns.{turned, ranBy};
 ghost use Rattle.bus.specs.Calls.{portRead, floatingBus, answered, readValue, pagingWrite, portWrite, writeCode};
@@ -39,7 +39,7 @@ pub struct WriteTurn {
 // The byte at an address of the picture, which is never in ROM, so that none is lent.
 fn picture_byte(m: ZXMachine, paging: u8, ram: &[u8], addr: u16) -> u8
     requires { ⌜ length (now ram) ≡ specsOf m .ram ⌝ }
-    ensures { λ r. ⌜ r ≡ byteAt m paging [] (now (ram .entry)) addr ⌝ }
+    ensures { λ r. ⌜ r ≡ peeked m paging [] (now (ram .entry)) addr ⌝ }
 {
     let place = memory::place_of(m, paging, addr);
     match place {

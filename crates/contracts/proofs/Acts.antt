@@ -42,7 +42,7 @@ use Rattle.answers.specs.Judges.{ramFits, judgeState, judgeTold, judgeWrite, ju
 use Rattle.answers.specs.Answers.{timedAnswer}
 use Rattle.answers.specs.Order.{NoneHolds}
 use Rattle.answers.proofs.Order.{state-ordered, wait-ordered, port-ordered, told-ordered, write-ordered, load-ordered}
-use Rattle.contracts.specs.Timed.{Lent, lentBy, startFitsOf, startLeaves, start, Outcome, outcome, timed, timedEnd, judgeWaitOf, judgePortOf, waitInternal, waitAt, readIo, writeIo}
+use Rattle.contracts.specs.Timed.{Lent, lentBy, startFitsOf, startLeaves, start, Outcome, outcome, timedCall, timedEnd, judgeWaitOf, judgePortOf, waitInternal, waitAt, readIo, writeIo}
 use Rattle.contracts.specs.Plain.{change, repage, writeInternal, write7ffdCall, resetFrames, loadPage}
 use Rattle.contracts.specs.Calls.{TimedCall, plain, mreq, noMreq, portIn, portOut, Call, startAgain, takeTime, writeByte, writePaging, resetPassed, loadRam, ask, Result, withRam, withState, waited, partOf, valueOf, opsOf, replied, performed, timedCauses, causesOf, Typed, Sized, NotStarted}
 use Rattle.contracts.proofs.Wholes.{record-of}
@@ -93,7 +93,7 @@ module _ (m : ZXMachine) (w : World) (sound : SoundWorld m w) (sized : Sized m w
   module _ (t : TimedCall) (answer : List ℕ) (h : NoneHolds (timedCauses t l answer)) where
     -- an accepted timed call is its operations
     waited-is : waited t l answer ≡ timedEnd (ranBy (partOf t m) (fresh m w)) (valueOf t m (w .core))
-    unfolding waited waitInternal waitAt readIo writeIo timed
+    unfolding waited waitInternal waitAt readIo writeIo timedCall
     waited-is = by t h where
       wait : (k : ℕ) → NoneHolds (timedCauses (plain k) l answer) → judgeWaitOf l k answer ≡ Accepted (busOf m w)
       wait k h = wait-ordered (l .state) (length (l .ram)) (length (l .a)) (length (l .b)) (length (l .border)) k (length answer) .noneAccepts h ∙ ap Accepted here
@@ -102,11 +102,11 @@ module _ (m : ZXMachine) (w : World) (sound : SoundWorld m w) (sized : Sized m w
       port devices h = port-ordered (l .state) devices (length (l .ram)) (length (l .a)) (length (l .b)) (length (l .border)) (length answer) .noneAccepts h ∙ ap Accepted here
 
       by : (t : TimedCall) → NoneHolds (timedCauses t l answer) → waited t l answer ≡ timedEnd (ranBy (partOf t m) (fresh m w)) (valueOf t m (w .core))
-      by (plain k) h = ap (timed (partOf (plain k)) (valueOf (plain k)) l answer) (wait k h)
-      by (mreq addr k) h = ap (timed (partOf (mreq addr k)) (valueOf (mreq addr k)) l answer) (wait k h)
-      by (noMreq addr k) h = ap (timed (partOf (noMreq addr k)) (valueOf (noMreq addr k)) l answer) (wait k h)
-      by (portIn devices port′) h = ap (timed (partOf (portIn devices port′)) (valueOf (portIn devices port′)) l answer) (port devices h)
-      by (portOut devices port′ value) h = ap (timed (partOf (portOut devices port′ value)) (valueOf (portOut devices port′ value)) l answer) (port devices h)
+      by (plain k) h = ap (timedCall (partOf (plain k)) (valueOf (plain k)) l answer) (wait k h)
+      by (mreq addr k) h = ap (timedCall (partOf (mreq addr k)) (valueOf (mreq addr k)) l answer) (wait k h)
+      by (noMreq addr k) h = ap (timedCall (partOf (noMreq addr k)) (valueOf (noMreq addr k)) l answer) (wait k h)
+      by (portIn devices port′) h = ap (timedCall (partOf (portIn devices port′)) (valueOf (portIn devices port′)) l answer) (port devices h)
+      by (portOut devices port′ value) h = ap (timedCall (partOf (portOut devices port′ value)) (valueOf (portOut devices port′ value)) l answer) (port devices h)
 
     -- of operations of a timed call, within refusal 5's limit
     part-timed : Typed (takeTime t answer) → Timed m (partOf t m)

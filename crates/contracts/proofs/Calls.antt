@@ -7,7 +7,7 @@ use mathlib.Core.Path.{_≡_, refl, ap}
 use Rattle.answers.specs.Order.{Numbered}
 use Rattle.contracts.specs.Timed.{Lent}
 use Rattle.contracts.specs.Plain.{told}
-use Rattle.contracts.specs.Calls.{TimedCall, plain, mreq, noMreq, portIn, portOut, Helper, lineAddr, lineOf, columnOf, attrRowOf, attrColumnOf, colorOf, Question, byteRead, pagingRead, interruptAsked, framesAsked, pageAsked, blockAsked, shownAsked, stillAsked, help, Call, startAgain, takeTime, writeByte, writePaging, resetPassed, loadRam, ask, Result, result, withRam, withState, waited, helpedBy, replied, performed, timedCauses, helperRange, helperCauses, questionCauses, causesOf, refusedReply, refusedFilled}
+use Rattle.contracts.specs.Calls.{TimedCall, plain, mreq, noMreq, portIn, portOut, Helper, lineAddr, lineOf, columnOf, attrRowOf, attrColumnOf, colourBits, Question, byteRead, pagingRead, interruptAsked, framesAsked, pageAsked, blockAsked, shownAsked, stillAsked, help, Call, startAgain, takeTime, writeByte, writePaging, resetPassed, loadRam, ask, Result, result, withRam, withState, waited, helpedBy, replied, performed, timedCauses, helperRange, helperCauses, questionCauses, causesOf, refusedReply, refusedFilled}
 use Rattle.contracts.specs.Helpers.{helperCall}
 use Rattle.contracts.proofs.Refusals as refusals
 
@@ -26,7 +26,7 @@ helped-numbered lineOf n answer = refusals.bitmap-line-rel-numbered n answer
 helped-numbered columnOf n answer = refusals.bitmap-col-rel-numbered n answer
 helped-numbered attrRowOf n answer = refusals.attr-row-rel-numbered n answer
 helped-numbered attrColumnOf n answer = refusals.attr-col-rel-numbered n answer
-helped-numbered colorOf n answer = refusals.color-from-bits-numbered n answer
+helped-numbered colourBits n answer = refusals.color-from-bits-numbered n answer
 
 reply-numbered : (q : Question) (l : Lent) (out : List ℕ) → Numbered (replied q l out .code) (questionCauses q l out)
 unfolding replied

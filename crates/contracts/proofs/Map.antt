@@ -22,7 +22,7 @@ use Rattle.memory.specs.declared.Page.the-variants as page
 use Rattle.memory.specs.declared.Paged.{Paged}
 use Rattle.memory.specs.declared.Paged.the-variants as paging
 use Rattle.memory.specs.Paging.{pageAt, write7ffd, pagedCode, pagingAfter}
-use Rattle.memory.specs.Memory.{placeIn, placeOf, byteIn, byteAt, Holds, ramPage, pagePart, partStart}
+use Rattle.memory.specs.Memory.{placeIn, placeOf, byteIn, peeked, Holds, ramPage, pagePart, partStart}
 use Rattle.memory.proofs.Places.{exists-fits, map-holds}
 use Rattle.memory.proofs.Stored.{block-bytes}
 use Rattle.ports.specs.declared.Devices.{Devices}
@@ -44,7 +44,7 @@ use Rattle.answers.specs.Answers.{numberAnswer}
 use Rattle.answers.specs.Ready.{OnRecord}
 use Rattle.answers.proofs.Order.{read-ordered, block-ordered}
 use Rattle.answers.proofs.Accepted.{ready-wait, ready-port, ready-state, ready-told, ready-read, ready-ram-page, ready-block}
-use Rattle.contracts.specs.Timed.{Lent, lentWorld, timed, judgeWaitOf, judgePortOf, waitInternal, waitAt, readIo, writeIo}
+use Rattle.contracts.specs.Timed.{Lent, lentWorld, timedCall, judgeWaitOf, judgePortOf, waitInternal, waitAt, readIo, writeIo}
 use Rattle.contracts.specs.Plain.{told, tell, change, repage, readInternal, write7ffdCall, resetFrames, part, ramPagePart, blockPart, ramPageTold, blockTold}
 use Rattle.contracts.specs.Map.{numberIn, codeIn, Named, MapOf, counted, mapped, Alike, renews, Quiet, waited, waitedAt, readPort, wrotePort, wrote7ffd, reset, AllQuiet, last}
 use Rattle.contracts.proofs.Parts.{number-back, told-bus, start-small}
@@ -95,7 +95,7 @@ ram-page-start state number start ram answer c n =
 -- what an accepted byte read answers, and that it was lent a ROM of the machine's length
 module _ (held rom ram : List ℕ) (addr : ℕ) (answer : List ℕ) (accepted : readInternal held rom ram addr answer .code ≡ 0) where
   abbrev reads : Bus → ℕ
-  reads bus = byteAt (bus .machine) (bus .paging) rom ram addr
+  reads bus = peeked (bus .machine) (bus .paging) rom ram addr
 
   abbrev verdict : Verdict
   verdict = judgeRead held (length rom) (length ram) (length answer)
@@ -104,7 +104,7 @@ module _ (held rom ram : List ℕ) (addr : ℕ) (answer : List ℕ) (accepted : 
   unfolding readInternal
   verdict-bus = told-bus reads answer verdict accepted
 
-  read-is : readInternal held rom ram addr answer ≡ told 0 (numberAnswer (byteAt (recordOf held .machine) (recordOf held .paging) rom ram addr))
+  read-is : readInternal held rom ram addr answer ≡ told 0 (numberAnswer (peeked (recordOf held .machine) (recordOf held .paging) rom ram addr))
   unfolding readInternal
   read-is =
       let r = ready-read held (verdict-bus .0) (length rom) (length ram) (length answer) (verdict-bus .1) in
@@ -119,7 +119,7 @@ module _ (held rom ram : List ℕ) (addr : ℕ) (answer : List ℕ) (accepted : 
 
 -- the byte at an address of a block, of a ROM of the machine's length, by the page that is there
 block-counted : (m : ZXMachine) (paging : ℕ) (p : Page) (rom ram : List ℕ) (block offset : ℕ) → offset < 16384 → length rom ≡ specsOf m .rom
-    → pageAt m paging block ≡ p → byteAt m paging rom ram (16384 * block + offset) ≡ counted rom ram (partStart m p + offset)
+    → pageAt m paging block ≡ p → peeked m paging rom ram (16384 * block + offset) ≡ counted rom ram (partStart m p + offset)
 unfolding placeOf
 block-counted m paging p rom ram block offset h n e =
     let q : (16384 * block + offset) / 16384 ≡ block = omega arith in
@@ -313,8 +313,8 @@ module _ (m : ZXMachine) where
 module _ (part : ZXMachine → Part) (value : ZXMachine → Core → ℕ) (l : Lent) (answer : List ℕ) where
   timed-alike : (v : Verdict) → ((bus : Bus) → v ≡ Accepted bus → OnRecord (l .state) bus)
       → ((bus : Bus) → v ≡ Accepted bus → Leaves (bus .machine) (lentWorld bus l .core) (part (bus .machine) (lentWorld bus l .core)))
-      → Alike (l .state) (timed part value l answer v .slices .state)
-  unfolding timed
+      → Alike (l .state) (timedCall part value l answer v .slices .state)
+  unfolding timedCall
   timed-alike (Refused e) r k = alike-same (l .state)
   timed-alike (Accepted bus) r k =
       let m = bus .machine in
@@ -354,7 +354,7 @@ read-io-alike l devices port answer =
 pub write-io-alike : (l : Lent) (devices : List ℕ) (port value : ℕ) (answer : List ℕ)
     → (writeIo l devices port value answer .code ≡ 0 → codeIn (writeIo l devices port value answer .answer) ≡ renews → ⊥)
     → Alike (l .state) (writeIo l devices port value answer .slices .state)
-unfolding writeIo timed
+unfolding writeIo timedCall
 write-io-alike l devices port value answer n =
     timed-alike _ _ l answer (judgePortOf l devices answer) (port-record l devices answer)
     (λ bus p. keep-write (bus .machine) (devicesOf devices) port value (lentWorld bus l .core) (λ e. (rw p at n) refl e))

@@ -18,9 +18,9 @@ use Rattle.bus.specs.Turns.{Part}
 use Rattle.screen.specs.declared.Helped.{Helped}
 use Rattle.screen.specs.declared.Helped.the-variants as helped
 use Rattle.screen.specs.declared.ZXColor.{ZXColor}
-use Rattle.screen.specs.declared.Colored.the-variants as colored
+use Rattle.screen.specs.declared.Coloured.the-variants as coloured
 use Rattle.screen.specs.Address.{isAttribute}
-use Rattle.screen.specs.Color.{colorOf, colorNumber}
+use Rattle.screen.specs.Colour.{colourOf, colourNumber}
 use Rattle.answers.specs.declared.Refusal.{Refusal}
 use Rattle.answers.specs.declared.Refusal.the-variants.{BadMachine, BadLength, Unsound, BadFlag, LongWait, FramesFull, BadPage, BadNumber}
 use Rattle.answers.specs.declared.Verdict.{Verdict}
@@ -30,10 +30,10 @@ use Rattle.answers.specs.Judges.{numberFits, unless, noCauses, waitCauses, port
 use Rattle.answers.specs.Answers.{refusedAnswer, timedLength, numberLength}
 use Rattle.answers.specs.Order.{Ordered, Numbered, documentOrder, numbersOf, standIn, allCauses}
 use Rattle.answers.proofs.Order.{by-list, state-ordered, wait-ordered, port-ordered, told-ordered, read-ordered, write-ordered, load-ordered, ram-page-ordered, block-ordered, shown-ordered, still-ordered}
-use Rattle.contracts.specs.Timed.{Lent, Outcome, timed, judgeWaitOf, judgePortOf, waitInternal, waitAt, readIo, writeIo, lentBy, startFitsOf, Started, startLeaves, start}
+use Rattle.contracts.specs.Timed.{Lent, Outcome, timedCall, judgeWaitOf, judgePortOf, waitInternal, waitAt, readIo, writeIo, lentBy, startFitsOf, Started, startLeaves, start}
 use Rattle.contracts.specs.Plain.{codeOf, Told, told, tell, Changed, change, Repaged, repage, readInternal, writeInternal, write7ffdCall, read7ffd, intActive, framesCount, resetFrames, loadPage, stillPicture, ramPageTold, blockTold, shownTold}
 use Rattle.contracts.specs.Calls.{startCauses, helperCauses}
-use Rattle.contracts.specs.Helpers.{help, helperCall, colorHelped, bitmapLineAddr, bitmapLineRel, bitmapColRel, attrRowRel, attrColRel, colorFromBits}
+use Rattle.contracts.specs.Helpers.{help, helperCall, colourHelped, bitmapLineAddr, bitmapLineRel, bitmapColRel, attrRowRel, attrColRel, colorFromBits}
 
 -- ---- numbers: a refusal is known by its number, which is not 0
 refusalOf : ℕ → Refusal
@@ -85,14 +85,14 @@ numbered v causes bus code c o =
 
 -- ---- each form of a call, by its verdict
 module _ (part : ZXMachine → Part) (value : ZXMachine → Core → ℕ) (l : Lent) (answer : List ℕ) where
-  timed-code : (v : Verdict) (o : Outcome) → o ≡ timed part value l answer v → o .code ≡ codeOf v
-  unfolding timed
+  timed-code : (v : Verdict) (o : Outcome) → o ≡ timedCall part value l answer v → o .code ≡ codeOf v
+  unfolding timedCall
   timed-code (Refused e) o p = ap (λ (x : Outcome). x .code) p
   timed-code (Accepted bus) o p = ap (λ (x : Outcome). x .code) p
 
-  timed-kept : (v : Verdict) (o : Outcome) → o ≡ timed part value l answer v → (o .code ≡ 0 → ⊥)
+  timed-kept : (v : Verdict) (o : Outcome) → o ≡ timedCall part value l answer v → (o .code ≡ 0 → ⊥)
       → (o .slices ≡ l) × (o .answer ≡ refusedAnswer timedLength (o .code) answer)
-  unfolding timed
+  unfolding timedCall
   timed-kept (Refused e) o p n = rw p (refl, refl)
   timed-kept (Accepted bus) o p n = absurd (n (ap (λ (x : Outcome). x .code) p))
 
@@ -334,9 +334,9 @@ attr-row-rel-numbered addr answer = helper-numbered (isAttribute addr) _ answer
 pub attr-col-rel-numbered : (addr : ℕ) (answer : List ℕ) → Numbered (attrColRel addr answer .code) (helperCauses (isAttribute addr) answer)
 attr-col-rel-numbered addr answer = helper-numbered (isAttribute addr) _ answer
 
-color-ranged : (t : Bool) (c : ZXColor) → colorHelped (cond t (colored.Color c) colored.OutOfRange) ≡ ranged t (colorNumber c)
-color-ranged true c = refl
-color-ranged false c = refl
+colour-ranged : (t : Bool) (c : ZXColor) → colourHelped (cond t (coloured.Colour c) coloured.OutOfRange) ≡ ranged t (colourNumber c)
+colour-ranged true c = refl
+colour-ranged false c = refl
 
 pub color-from-bits-numbered : (bits : ℕ) (answer : List ℕ) → Numbered (colorFromBits bits answer .code) (helperCauses (leb bits 7) answer)
-color-from-bits-numbered bits answer = rw (color-ranged (leb bits 7) (colorOf bits)) (helper-numbered (leb bits 7) _ answer)
+color-from-bits-numbered bits answer = rw (colour-ranged (leb bits 7) (colourOf bits)) (helper-numbered (leb bits 7) _ answer)

@@ -33,7 +33,7 @@ use Rattle.answers.specs.declared.Verdict.{Verdict}
 use Rattle.answers.specs.declared.Verdict.the-variants.{Refused, Accepted}
 use Rattle.answers.specs.Judges.{judgeState, judgeTold}
 use Rattle.answers.proofs.Accepted.{accepted-bytes, ready-wait, ready-port, ready-told, ready-state}
-use Rattle.contracts.specs.Timed.{Lent, lentBy, lentWorld, Outcome, timed, judgeWaitOf, judgePortOf, waitInternal, waitAt, readIo, writeIo, startLeaves, startFitsOf, start}
+use Rattle.contracts.specs.Timed.{Lent, lentBy, lentWorld, Outcome, timedCall, judgeWaitOf, judgePortOf, waitInternal, waitAt, readIo, writeIo, startLeaves, startFitsOf, start}
 use Rattle.contracts.specs.Plain.{Changed, change, Repaged, repage, write7ffdCall, resetFrames}
 use Rattle.contracts.proofs.Refusals.{not-zero}
 
@@ -52,8 +52,8 @@ record Runs (part : ZXMachine → Part) (bus : Bus) : Type 0 where
   brief : Timed (bus .machine) (part (bus .machine))
 
 module _ (part : ZXMachine → Part) (value : ZXMachine → Core → ℕ) (l : Lent) (answer : List ℕ) where
-  accepted-good : (bus : Bus) → Runs part bus → Good (timed part value l answer (Accepted bus) .slices .state)
-  unfolding timed
+  accepted-good : (bus : Bus) → Runs part bus → Good (timedCall part value l answer (Accepted bus) .slices .state)
+  unfolding timedCall
   accepted-good bus r =
       let m = bus .machine in
       let w = lentWorld bus l in
@@ -62,15 +62,15 @@ module _ (part : ZXMachine → Part) (value : ZXMachine → Core → ℕ) (l : L
       let k : Sound (busOf m (after .world)) = call-kept m f (r .brief) w (r .sound) (r .room) in
       good (busOf (after .machine) (after .world)) (subst (λ (x : ZXMachine). Sound (busOf x (after .world))) (sym (ran-machine (f (w .core)) (fresh m w))) k)
 
-  timed-sound : (v : Verdict) (o : Outcome) → o ≡ timed part value l answer v → ((bus : Bus) → v ≡ Accepted bus → Runs part bus)
+  timed-sound : (v : Verdict) (o : Outcome) → o ≡ timedCall part value l answer v → ((bus : Bus) → v ≡ Accepted bus → Runs part bus)
       → o .code ≡ 0 → Good (o .slices .state)
-  unfolding timed
+  unfolding timedCall
   timed-sound (Refused e) o p r c = absurd (not-zero e (sym (ap (λ (x : Outcome). x .code) p) ∙ c))
   timed-sound (Accepted bus) o p r c = subst (λ (x : Outcome). Good (x .slices .state)) (sym p) (accepted-good bus (r bus refl))
 
-  timed-keeps : (v : Verdict) (o : Outcome) → o ≡ timed part value l answer v → ((bus : Bus) → v ≡ Accepted bus → Runs part bus)
+  timed-keeps : (v : Verdict) (o : Outcome) → o ≡ timedCall part value l answer v → ((bus : Bus) → v ≡ Accepted bus → Runs part bus)
       → Good (l .state) → Good (o .slices .state)
-  unfolding timed
+  unfolding timedCall
   timed-keeps (Refused e) o p r g = subst (λ (x : Outcome). Good (x .slices .state)) (sym p) g
   timed-keeps (Accepted bus) o p r g = subst (λ (x : Outcome). Good (x .slices .state)) (sym p) (accepted-good bus (r bus refl))
 

@@ -18,7 +18,7 @@ use Rattle.bus.specs.Calls.{plainWait, addressWait, portRead, readValue, portWr
 use Rattle.bus.specs.Pokes.{byteWrite, pageLoad, passedReset}
 use Rattle.screen.specs.declared.Helped.{Helped}
 use Rattle.screen.specs.Address.{lineAddress, lineAt, columnAt, attributeRow, attributeColumn, isAttribute}
-use Rattle.screen.specs.Color.{fromBits}
+use Rattle.screen.specs.Colour.{fromBits}
 use Rattle.answers.specs.declared.Refusal.the-variants.{BadMachine, BadNumber}
 use Rattle.answers.specs.Refusals.{Cause, cause}
 use Rattle.answers.specs.Judges.{numberFits, unless, noCauses, waitCauses, portCauses, toldCauses, readCauses, writeCauses, loadCauses, ramPageCauses, blockCauses, shownCauses, stillCauses}
@@ -26,7 +26,7 @@ use Rattle.answers.specs.Answers.{timedLength, numberLength, refusedAnswer}
 use Rattle.answers.specs.Order.{allCauses}
 use Rattle.contracts.specs.Timed.{Lent, Outcome, noValue, startFitsOf, start, waitInternal, waitAt, readIo, writeIo}
 use Rattle.contracts.specs.Plain.{Told, told, readInternal, writeInternal, write7ffdCall, read7ffd, intActive, framesCount, resetFrames, loadPage, stillPicture, ramPageTold, blockTold, shownTold}
-use Rattle.contracts.specs.Helpers.{helperCall, colorHelped}
+use Rattle.contracts.specs.Helpers.{helperCall, colourHelped}
 
 -- ---- the calls, each with its numbers and with the contents of the slices that are not the machine's own: device record, ROM, page bytes
 
@@ -45,7 +45,7 @@ pub data Helper : Type 0 where
   columnOf : Helper
   attrRowOf : Helper
   attrColumnOf : Helper
-  colorOf : Helper
+  colourBits : Helper
 
 -- what may be asked of a machine without a change of it; and of no machine, by a helper
 pub data Question : Type 0 where
@@ -123,7 +123,7 @@ helpedBy lineOf n = lineAt n
 helpedBy columnOf n = columnAt n
 helpedBy attrRowOf n = attributeRow n
 helpedBy attrColumnOf n = attributeColumn n
-helpedBy colorOf n = colorHelped (fromBits n)
+helpedBy colourBits n = colourHelped (fromBits n)
 
 unfoldable pub replied : Question → Lent → List ℕ → Told
 replied (byteRead rom addr) l answer = readInternal (l .state) rom (l .ram) addr answer
@@ -172,7 +172,7 @@ helperRange lineOf n = leb n 0x17FF
 helperRange columnOf n = leb n 0x17FF
 helperRange attrRowOf n = isAttribute n
 helperRange attrColumnOf n = isAttribute n
-helperRange colorOf n = leb n 7
+helperRange colourBits n = leb n 7
 
 abbrev pub helperCauses : Bool → List ℕ → List Cause
 helperCauses within answer = unless (numberFits (length answer)) ∷ cause BadNumber (not within) ∷ []

@@ -6,10 +6,10 @@ use mathlib.Core.List.{List}
 use lib.ListN.{length}
 use Rattle.screen.specs.declared.Helped.{Helped}
 use Rattle.screen.specs.declared.Helped.the-variants as helped
-use Rattle.screen.specs.declared.Colored.{Colored}
-use Rattle.screen.specs.declared.Colored.the-variants as colored
+use Rattle.screen.specs.declared.Coloured.{Coloured}
+use Rattle.screen.specs.declared.Coloured.the-variants as coloured
 use Rattle.screen.specs.Address.{lineAddress, lineAt, columnAt, attributeRow, attributeColumn}
-use Rattle.screen.specs.Color.{fromBits, colorNumber}
+use Rattle.screen.specs.Colour.{fromBits, colourNumber}
 use Rattle.answers.specs.declared.Refusal.the-variants.{BadLength, BadNumber}
 use Rattle.answers.specs.Refusals.{refusalNumber}
 use Rattle.answers.specs.Judges.{numberFits}
@@ -25,9 +25,9 @@ unfoldable pub helperCall : Helped → List ℕ → Told
 helperCall h answer = cond (numberFits (length answer)) (help h answer) (told (refusalNumber BadLength) answer)
 
 -- a colour is given by its number
-abbrev pub colorHelped : Colored → Helped
-colorHelped (colored.Color c) = helped.Number (colorNumber c)
-colorHelped colored.OutOfRange = helped.OutOfRange
+abbrev pub colourHelped : Coloured → Helped
+colourHelped (coloured.Colour c) = helped.Number (colourNumber c)
+colourHelped coloured.OutOfRange = helped.OutOfRange
 
 abbrev pub bitmapLineAddr : ℕ → List ℕ → Told
 bitmapLineAddr n answer = helperCall (lineAddress n) answer
@@ -45,4 +45,4 @@ abbrev pub attrColRel : ℕ → List ℕ → Told
 attrColRel n answer = helperCall (attributeColumn n) answer
 
 abbrev pub colorFromBits : ℕ → List ℕ → Told
-colorFromBits n answer = helperCall (colorHelped (fromBits n)) answer
+colorFromBits n answer = helperCall (colourHelped (fromBits n)) answer

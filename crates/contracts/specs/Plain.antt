@@ -13,7 +13,7 @@ use Rattle.record.specs.declared.Bus.{Bus}
 use Rattle.record.specs.Record.{recordBytes, flagByte, withPaging, withPassed}
 use Rattle.memory.specs.declared.Page.the-variants as page
 use Rattle.memory.specs.Paging.{pageAt, write7ffd, pagedCode, pagingAfter}
-use Rattle.memory.specs.Memory.{byteAt, poked, ramPage, pagePart, partStart, loaded}
+use Rattle.memory.specs.Memory.{peeked, poked, ramPage, pagePart, partStart, loaded}
 use Rattle.paint.specs.Paint.{blocks}
 use Rattle.bus.specs.Time.{showsA}
 use Rattle.answers.specs.declared.Verdict.{Verdict}
@@ -55,7 +55,7 @@ change new old (Accepted bus) = changed 0 (new bus)
 -- ulb_read_internal: byte read
 unfoldable pub readInternal : List ℕ → List ℕ → List ℕ → ℕ → List ℕ → Told
 readInternal state rom ram addr answer =
-    tell (λ bus. byteAt (bus .machine) (bus .paging) rom ram addr) answer (judgeRead state (length rom) (length ram) (length answer))
+    tell (λ bus. peeked (bus .machine) (bus .paging) rom ram addr) answer (judgeRead state (length rom) (length ram) (length answer))
 
 -- ulb_write_internal: byte write; RAM afterwards
 unfoldable pub writeInternal : List ℕ → List ℕ → ℕ → ℕ → Changed

@@ -56,9 +56,9 @@ timedEnd t value =
 
 -- a timed call: its operations, and its value or code, are what the core at entry decides. "A refused call fills its answer .., returns the
 -- number .. and writes nothing else."
-unfoldable pub timed : (ZXMachine → Part) → (ZXMachine → Core → ℕ) → Lent → List ℕ → Verdict → Outcome
-timed part value l answer (Refused e) = outcome (refusalNumber e) l (refusedAnswer timedLength (refusalNumber e) answer)
-timed part value l answer (Accepted bus) =
+unfoldable pub timedCall : (ZXMachine → Part) → (ZXMachine → Core → ℕ) → Lent → List ℕ → Verdict → Outcome
+timedCall part value l answer (Refused e) = outcome (refusalNumber e) l (refusedAnswer timedLength (refusalNumber e) answer)
+timedCall part value l answer (Accepted bus) =
     timedEnd (ranBy (part (bus .machine)) (fresh (bus .machine) (lentWorld bus l))) (value (bus .machine) (lentWorld bus l .core))
 
 -- "value or code (0 for a wait)"
@@ -75,21 +75,21 @@ judgePortOf l devices answer =
 
 -- ulb_wait_internal: the plain wait
 unfoldable pub waitInternal : Lent → ℕ → List ℕ → Outcome
-waitInternal l clocks answer = timed (λ m. plainWait clocks) noValue l answer (judgeWaitOf l clocks answer)
+waitInternal l clocks answer = timedCall (λ m. plainWait clocks) noValue l answer (judgeWaitOf l clocks answer)
 
 -- ulb_wait_mreq and ulb_wait_no_mreq: "Wait (a memory request, or one without) at an address"
 unfoldable pub waitAt : Lent → ℕ → ℕ → List ℕ → Outcome
-waitAt l addr clocks answer = timed (λ m. addressWait m addr clocks) noValue l answer (judgeWaitOf l clocks answer)
+waitAt l addr clocks answer = timedCall (λ m. addressWait m addr clocks) noValue l answer (judgeWaitOf l clocks answer)
 
 -- ulb_read_io
 unfoldable pub readIo : Lent → List ℕ → ℕ → List ℕ → Outcome
 readIo l devices port answer =
-    timed (λ m. portRead m port) (λ m. readValue m (devicesOf devices) port) l answer (judgePortOf l devices answer)
+    timedCall (λ m. portRead m port) (λ m. readValue m (devicesOf devices) port) l answer (judgePortOf l devices answer)
 
 -- ulb_write_io
 unfoldable pub writeIo : Lent → List ℕ → ℕ → ℕ → List ℕ → Outcome
 writeIo l devices port value answer =
-    timed (λ m. portWrite m (devicesOf devices) port value) (λ m. writeCode m (devicesOf devices) port value) l answer
+    timedCall (λ m. portWrite m (devicesOf devices) port value) (λ m. writeCode m (devicesOf devices) port value) l answer
     (judgePortOf l devices answer)
 
 -- what a start leaves

@@ -15,7 +15,7 @@ use Rattle.memory.specs.declared.Page.the-variants as page
 use Rattle.memory.specs.declared.Place.{Place}
 use Rattle.memory.specs.declared.Place.the-variants.{Rom, Ram}
 use Rattle.memory.specs.Paging.{pageAt}
-use Rattle.memory.specs.Memory.{placeIn, placeOf, byteIn, byteAt, pokedIn, poked, ramPage, pagePart, Holds, partStart, loaded}
+use Rattle.memory.specs.Memory.{placeIn, placeOf, byteIn, peeked, pokedIn, poked, ramPage, pagePart, Holds, partStart, loaded}
 use Rattle.memory.proofs.Places.{ram-within}
 
 -- ---- byte write
@@ -46,7 +46,7 @@ module _ (m : ZXMachine) (paging : ℕ) (ram : List ℕ) (addr value : ℕ) wher
 
   -- and is read back at every address, under any later map, that has the same byte of RAM
   pub read-back : (rom : List ℕ) (at later there : ℕ) → length ram ≡ specsOf m .ram → placeOf m paging addr ≡ Ram at
-      → placeOf m later there ≡ Ram at → byteAt m later rom (poked m paging ram addr value) there ≡ value
+      → placeOf m later there ≡ Ram at → peeked m later rom (poked m paging ram addr value) there ≡ value
   read-back rom at later there n e f = rw (e, f) (getD-set-same ram at value 0 (omega (arith, ram-within m paging addr at e)))
 
 -- ---- page load
@@ -88,7 +88,7 @@ part-byte (page.Ram p) rom ram offset h = part-at (16384 * p) offset ram h
 
 -- the part at a block is what the byte read sees through that block
 pub block-bytes : (m : ZXMachine) (paging : ℕ) (rom ram : List ℕ) (block offset : ℕ) → offset < 16384
-    → getD (pagePart (pageAt m paging block) rom ram) offset 0 ≡ byteAt m paging rom ram (16384 * block + offset)
+    → getD (pagePart (pageAt m paging block) rom ram) offset 0 ≡ peeked m paging rom ram (16384 * block + offset)
 unfolding placeOf
 block-bytes m paging rom ram block offset h =
     let q : (16384 * block + offset) / 16384 ≡ block = omega arith in

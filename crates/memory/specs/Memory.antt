@@ -27,8 +27,8 @@ abbrev pub byteIn : Place → List ℕ → List ℕ → ℕ
 byteIn (Rom at) rom ram = getD rom at 0
 byteIn (Ram at) rom ram = getD ram at 0
 
-abbrev pub byteAt : ZXMachine → ℕ → List ℕ → List ℕ → ℕ → ℕ
-byteAt m paging rom ram addr = byteIn (placeOf m paging addr) rom ram
+abbrev pub peeked : ZXMachine → ℕ → List ℕ → List ℕ → ℕ → ℕ
+peeked m paging rom ram addr = byteIn (placeOf m paging addr) rom ram
 
 -- bytes stored in RAM one after the other, the first of them at an offset: RAM afterwards
 abbrev pub stored : ℕ → List ℕ → List ℕ → List ℕ

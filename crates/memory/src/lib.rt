@@ -7,7 +7,7 @@ ghost use lib.ListN.{length};
 ghost use Rattle.machine.specs.Numbers.{specsOf};
 ghost use Rattle.machine.specs.Limits.{pageLength};
 ghost use Rattle.memory.specs.Paging.{pageAt, shownPage, addrContended, write7ffd, pagedCode, pagingAfter, lastPage, pageExists};
-ghost use Rattle.memory.specs.Memory.{placeOf, byteAt, poked, Holds, pagePart, ramPage, partStart, loaded};
+ghost use Rattle.memory.specs.Memory.{placeOf, peeked, poked, Holds, pagePart, ramPage, partStart, loaded};
 use machine::ZXMachine;
 
 // A page of 16 KiB, by its number in ROM or in RAM.
@@ -146,7 +146,7 @@ pub fn place_of(m: ZXMachine, paging: u8, addr: u16) -> Place
 // The byte at an address.
 pub fn read(m: ZXMachine, paging: u8, rom: &[u8], ram: &[u8], addr: u16) -> u8
     requires { ⌜ (length (now rom) ≡ specsOf m .rom) × (length (now ram) ≡ specsOf m .ram) ⌝ }
-    ensures { λ r. ⌜ r ≡ byteAt m paging (now (rom .entry)) (now (ram .entry)) addr ⌝ }
+    ensures { λ r. ⌜ r ≡ peeked m paging (now (rom .entry)) (now (ram .entry)) addr ⌝ }
 {
     let place = place_of(m, paging, addr);
     match place {

@@ -21,7 +21,7 @@ use Rattle.ports.specs.declared.MousePorts.{MousePorts}
 use Rattle.ports.specs.declared.Mouse.{Mouse}
 use Rattle.ports.specs.declared.Mouse.the-variants as mouse
 use Rattle.ports.specs.declared.Devices.{Devices}
-use Rattle.ports.specs.Devices.{byteAt, mouseOf, rowsOf, devicesOf, flagsOf, ignored}
+use Rattle.ports.specs.Devices.{deviceByte, mouseOf, rowsOf, devicesOf, flagsOf, ignored}
 use Rattle.ports.specs.Order.{readOrder}
 use Rattle.ports.specs.Hearers.{hearers}
 
@@ -32,9 +32,9 @@ early s k h = rw (ne-eqb k 26 (λ (e : k ≡ 26). omega arith), ne-eqb k 28 (λ 
 
 -- the mouse's three bytes, if it is there
 abbrev mouseIf : Bool → List ℕ → Mouse
-mouseIf absent s = cond absent mouse.Absent (mouse.Present (record { buttons = byteAt s 32; x = byteAt s 33; y = byteAt s 34 }))
+mouseIf absent s = cond absent mouse.Absent (mouse.Present (record { buttons = deviceByte s 32; x = deviceByte s 33; y = deviceByte s 34 }))
 
-module _ (s t : List ℕ) (ls : length s ≡ 35) (lt : length t ≡ 35) (h : (k : ℕ) → ignored s k ≡ false → byteAt s k ≡ byteAt t k) where
+module _ (s t : List ℕ) (ls : length s ≡ 35) (lt : length t ≡ 35) (h : (k : ℕ) → ignored s k ≡ false → deviceByte s k ≡ deviceByte t k) where
   rows-same : rowsOf s ≡ rowsOf t
   rows-same =
       let a : length (take 24 s) ≡ 24 = length-take 24 s ∙ rw ls in
@@ -43,17 +43,17 @@ module _ (s t : List ℕ) (ls : length s ≡ 35) (lt : length t ≡ 35) (h : (k 
       (λ i l. let g : i < 24 = omega arith in getD-take 24 s i 0 g ∙ (h i (early s i (omega arith)) ∙ sym (getD-take 24 t i 0 g)))
 
   -- a device of one byte, at any place
-  one : {A : Type 0} (absent : A) (present : ℕ → A) (f b : ℕ) → byteAt s f ≡ byteAt t f → (eqb (byteAt s f) 0 ≡ false → byteAt s b ≡ byteAt t b)
-      → cond (eqb (byteAt s f) 0) absent (present (byteAt s b)) ≡ cond (eqb (byteAt t f) 0) absent (present (byteAt t b))
-  one absent present f b e g = rw (← e) (by-flag (eqb (byteAt s f) 0) g) where
-    by-flag : (z : Bool) → (z ≡ false → byteAt s b ≡ byteAt t b) → cond z absent (present (byteAt s b)) ≡ cond z absent (present (byteAt t b))
+  one : {A : Type 0} (absent : A) (present : ℕ → A) (f b : ℕ) → deviceByte s f ≡ deviceByte t f → (eqb (deviceByte s f) 0 ≡ false → deviceByte s b ≡ deviceByte t b)
+      → cond (eqb (deviceByte s f) 0) absent (present (deviceByte s b)) ≡ cond (eqb (deviceByte t f) 0) absent (present (deviceByte t b))
+  one absent present f b e g = rw (← e) (by-flag (eqb (deviceByte s f) 0) g) where
+    by-flag : (z : Bool) → (z ≡ false → deviceByte s b ≡ deviceByte t b) → cond z absent (present (deviceByte s b)) ≡ cond z absent (present (deviceByte t b))
     by-flag true k = refl
     by-flag false k = ap present (k refl)
 
-  three : byteAt s 31 ≡ byteAt t 31 → (eqb (byteAt s 31) 0 ≡ false → (byteAt s 32 ≡ byteAt t 32) × (byteAt s 33 ≡ byteAt t 33) × (byteAt s 34 ≡ byteAt t 34))
-      → mouseOf (byteAt s 31) (byteAt s 32) (byteAt s 33) (byteAt s 34) ≡ mouseOf (byteAt t 31) (byteAt t 32) (byteAt t 33) (byteAt t 34)
-  three e g = rw (← e) (by-flag (eqb (byteAt s 31) 0) g) where
-    by-flag : (z : Bool) → (z ≡ false → (byteAt s 32 ≡ byteAt t 32) × (byteAt s 33 ≡ byteAt t 33) × (byteAt s 34 ≡ byteAt t 34)) → mouseIf z s ≡ mouseIf z t
+  three : deviceByte s 31 ≡ deviceByte t 31 → (eqb (deviceByte s 31) 0 ≡ false → (deviceByte s 32 ≡ deviceByte t 32) × (deviceByte s 33 ≡ deviceByte t 33) × (deviceByte s 34 ≡ deviceByte t 34))
+      → mouseOf (deviceByte s 31) (deviceByte s 32) (deviceByte s 33) (deviceByte s 34) ≡ mouseOf (deviceByte t 31) (deviceByte t 32) (deviceByte t 33) (deviceByte t 34)
+  three e g = rw (← e) (by-flag (eqb (deviceByte s 31) 0) g) where
+    by-flag : (z : Bool) → (z ≡ false → (deviceByte s 32 ≡ deviceByte t 32) × (deviceByte s 33 ≡ deviceByte t 33) × (deviceByte s 34 ≡ deviceByte t 34)) → mouseIf z s ≡ mouseIf z t
     by-flag true k = refl
     by-flag false k = rw (k refl .0, k refl .1, k refl .2)
 
@@ -126,59 +126,59 @@ or-left false b e = refl
 
 -- what the judged flags say
 record Judged (s : List ℕ) : Type 0 where
-  extenderFlag : byteAt s 25 < 2
-  ayFlag : byteAt s 27 < 2
-  joystickFlag : byteAt s 29 < 2
-  mouseFlag : byteAt s 31 < 2
+  extenderFlag : deviceByte s 25 < 2
+  ayFlag : deviceByte s 27 < 2
+  joystickFlag : deviceByte s 29 < 2
+  mouseFlag : deviceByte s 31 < 2
 
 judged : (s : List ℕ) → flagsOf s ≡ true → Judged s
 judged s e =
-    let a = ltb (byteAt s 24) 2 in
-    let b = ltb (byteAt s 25) 2 in
-    let c = ltb (byteAt s 27) 2 in
-    let d = ltb (byteAt s 29) 2 in
-    let f = ltb (byteAt s 31) 2 in
+    let a = ltb (deviceByte s 24) 2 in
+    let b = ltb (deviceByte s 25) 2 in
+    let c = ltb (deviceByte s 27) 2 in
+    let d = ltb (deviceByte s 29) 2 in
+    let f = ltb (deviceByte s 31) 2 in
     let e₄ : (a && b && c && d) ≡ true = and-left (a && b && c && d) f e in
     let e₃ : (a && b && c) ≡ true = and-left (a && b && c) d e₄ in
     let e₂ : (a && b) ≡ true = and-left (a && b) c e₃ in
     record {
-      extenderFlag = ltb-true (byteAt s 25) 2 (and-right a b e₂);
-      ayFlag = ltb-true (byteAt s 27) 2 (and-right (a && b) c e₃);
-      joystickFlag = ltb-true (byteAt s 29) 2 (and-right (a && b && c) d e₄);
-      mouseFlag = ltb-true (byteAt s 31) 2 (and-right (a && b && c && d) f e);
+      extenderFlag = ltb-true (deviceByte s 25) 2 (and-right a b e₂);
+      ayFlag = ltb-true (deviceByte s 27) 2 (and-right (a && b) c e₃);
+      joystickFlag = ltb-true (deviceByte s 29) 2 (and-right (a && b && c) d e₄);
+      mouseFlag = ltb-true (deviceByte s 31) 2 (and-right (a && b && c && d) f e);
     }
 
 module _ (s t : List ℕ) (fs : flagsOf s ≡ true) (ft : flagsOf t ≡ true) (e : devicesOf s ≡ devicesOf t) where
-  row-kept : (k : ℕ) → k < 24 → byteAt s k ≡ byteAt t k
+  row-kept : (k : ℕ) → k < 24 → deviceByte s k ≡ deviceByte t k
   unfolding devicesOf
   row-kept k h = sym (getD-take 24 s k 0 h) ∙ (ap (λ (d : Devices). getD (d .rows) k 0) e ∙ getD-take 24 t k 0 h)
 
-  extender-kept : (byteAt s 25 ≡ byteAt t 25) × (eqb (byteAt s 25) 0 ≡ false → byteAt s 26 ≡ byteAt t 26)
+  extender-kept : (deviceByte s 25 ≡ deviceByte t 25) × (eqb (deviceByte s 25) 0 ≡ false → deviceByte s 26 ≡ deviceByte t 26)
   unfolding devicesOf
   extender-kept =
-      back extender.Absent extender.Present extenderNumber refl (λ b. refl) (byteAt s 25) (byteAt t 25) (byteAt s 26) (byteAt t 26)
+      back extender.Absent extender.Present extenderNumber refl (λ b. refl) (deviceByte s 25) (deviceByte t 25) (deviceByte s 26) (deviceByte t 26)
       (judged s fs .extenderFlag) (judged t ft .extenderFlag) (ap (λ (d : Devices). d .extender) e)
 
-  ay-kept : (byteAt s 27 ≡ byteAt t 27) × (eqb (byteAt s 27) 0 ≡ false → byteAt s 28 ≡ byteAt t 28)
+  ay-kept : (deviceByte s 27 ≡ deviceByte t 27) × (eqb (deviceByte s 27) 0 ≡ false → deviceByte s 28 ≡ deviceByte t 28)
   unfolding devicesOf
   ay-kept =
-      back ay.Absent ay.Present ayNumber refl (λ b. refl) (byteAt s 27) (byteAt t 27) (byteAt s 28) (byteAt t 28)
+      back ay.Absent ay.Present ayNumber refl (λ b. refl) (deviceByte s 27) (deviceByte t 27) (deviceByte s 28) (deviceByte t 28)
       (judged s fs .ayFlag) (judged t ft .ayFlag) (ap (λ (d : Devices). d .ay) e)
 
-  joystick-kept : (byteAt s 29 ≡ byteAt t 29) × (eqb (byteAt s 29) 0 ≡ false → byteAt s 30 ≡ byteAt t 30)
+  joystick-kept : (deviceByte s 29 ≡ deviceByte t 29) × (eqb (deviceByte s 29) 0 ≡ false → deviceByte s 30 ≡ deviceByte t 30)
   unfolding devicesOf
   joystick-kept =
-      back joystick.Absent joystick.Present joystickNumber refl (λ b. refl) (byteAt s 29) (byteAt t 29) (byteAt s 30) (byteAt t 30)
+      back joystick.Absent joystick.Present joystickNumber refl (λ b. refl) (deviceByte s 29) (deviceByte t 29) (deviceByte s 30) (deviceByte t 30)
       (judged s fs .joystickFlag) (judged t ft .joystickFlag) (ap (λ (d : Devices). d .joystick) e)
 
-  mouse-kept : (byteAt s 31 ≡ byteAt t 31)
-      × (eqb (byteAt s 31) 0 ≡ false → (byteAt s 32 ≡ byteAt t 32) × (byteAt s 33 ≡ byteAt t 33) × (byteAt s 34 ≡ byteAt t 34))
+  mouse-kept : (deviceByte s 31 ≡ deviceByte t 31)
+      × (eqb (deviceByte s 31) 0 ≡ false → (deviceByte s 32 ≡ deviceByte t 32) × (deviceByte s 33 ≡ deviceByte t 33) × (deviceByte s 34 ≡ deviceByte t 34))
   unfolding devicesOf
   mouse-kept =
-      mouse-back (byteAt s 31) (byteAt t 31) (byteAt s 32) (byteAt s 33) (byteAt s 34) (byteAt t 32) (byteAt t 33) (byteAt t 34)
+      mouse-back (deviceByte s 31) (deviceByte t 31) (deviceByte s 32) (deviceByte s 33) (deviceByte s 34) (deviceByte t 32) (deviceByte t 33) (deviceByte t 34)
       (judged s fs .mouseFlag) (judged t ft .mouseFlag) (ap (λ (d : Devices). d .mouse) e)
 
-  late-kept : (j : ℕ) → j < 11 → ignored s (24 + j) ≡ false → byteAt s (24 + j) ≡ byteAt t (24 + j)
+  late-kept : (j : ℕ) → j < 11 → ignored s (24 + j) ≡ false → deviceByte s (24 + j) ≡ deviceByte t (24 + j)
   unfolding ignored devicesOf
   late-kept zero h i = ap (λ (d : Devices). d .tape) e
   late-kept (suc zero) h i = extender-kept .0
@@ -193,9 +193,9 @@ module _ (s t : List ℕ) (fs : flagsOf s ≡ true) (ft : flagsOf t ≡ true) (e
   late-kept (suc (suc (suc (suc (suc (suc (suc (suc (suc (suc zero)))))))))) h i = mouse-kept .1 i .2
   late-kept (suc (suc (suc (suc (suc (suc (suc (suc (suc (suc (suc j))))))))))) h i = let y : ⊥ = omega arith in absurd y
 
-  pub nothing-lost : (k : ℕ) → k < 35 → ignored s k ≡ false → byteAt s k ≡ byteAt t k
+  pub nothing-lost : (k : ℕ) → k < 35 → ignored s k ≡ false → deviceByte s k ≡ deviceByte t k
   nothing-lost k h i =
       split 24 k
       (λ g. let p : 24 + (k - 24) ≡ k = omega arith in
-      sym (ap (byteAt s) p) ∙ (late-kept (k - 24) (omega arith) (ap (ignored s) p ∙ i) ∙ ap (byteAt t) p))
+      sym (ap (deviceByte s) p) ∙ (late-kept (k - 24) (omega arith) (ap (ignored s) p ∙ i) ∙ ap (deviceByte t) p))
       (λ g. row-kept k g)

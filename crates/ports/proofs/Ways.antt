@@ -28,7 +28,7 @@ use Rattle.ports.specs.declared.Written.the-variants as written
 use Rattle.ports.specs.declared.FloatingPlace.{FloatingPlace}
 use Rattle.ports.specs.declared.FloatingPlace.the-variants as place
 use Rattle.ports.specs.declared.FloatingAddress.the-variants as address
-use Rattle.ports.specs.Devices.{byteAt, extenderOf, ayOf, joystickOf, mouseOf, rowsOf, devicesOf}
+use Rattle.ports.specs.Devices.{deviceByte, extenderOf, ayOf, joystickOf, mouseOf, rowsOf, devicesOf}
 use Rattle.ports.specs.Keys.{keysRead}
 use Rattle.ports.specs.Floating.{floatingPlace, floatingAddress}
 use Rattle.offsets.specs.Offset.{lineStart, attributeStart}
@@ -36,10 +36,10 @@ use Rattle.ports.specs.Order.{evenPort, withJoystick, withAy, withMouse,
 use Rattle.ports.specs.Hearers.{portHearers, hearers, hearersOf}
 
 -- ---- the device record
-pub devices-are : (s rows : List ℕ) (e : Extender) (a : Ay) (j : Joystick) (m : Mouse) → rows ≡ rowsOf s → e ≡ extenderOf (byteAt s 25) (byteAt s 26)
-    → a ≡ ayOf (byteAt s 27) (byteAt s 28) → j ≡ joystickOf (byteAt s 29) (byteAt s 30)
-    → m ≡ mouseOf (byteAt s 31) (byteAt s 32) (byteAt s 33) (byteAt s 34)
-    → _≡_ {A = Devices} (record { rows = rows; tape = byteAt s 24; extender = e; ay = a; joystick = j; mouse = m }) (devicesOf s)
+pub devices-are : (s rows : List ℕ) (e : Extender) (a : Ay) (j : Joystick) (m : Mouse) → rows ≡ rowsOf s → e ≡ extenderOf (deviceByte s 25) (deviceByte s 26)
+    → a ≡ ayOf (deviceByte s 27) (deviceByte s 28) → j ≡ joystickOf (deviceByte s 29) (deviceByte s 30)
+    → m ≡ mouseOf (deviceByte s 31) (deviceByte s 32) (deviceByte s 33) (deviceByte s 34)
+    → _≡_ {A = Devices} (record { rows = rows; tape = deviceByte s 24; extender = e; ay = a; joystick = j; mouse = m }) (devicesOf s)
 unfolding devicesOf
 devices-are s rows e a j m p q r t u = rw (p, q, r, t, u)
 

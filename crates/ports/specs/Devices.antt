@@ -20,8 +20,8 @@ abbrev pub devicesLength : ℕ
 devicesLength = 35
 
 -- byte k of the record
-abbrev pub byteAt : List ℕ → ℕ → ℕ
-byteAt s k = getD s k 0
+abbrev pub deviceByte : List ℕ → ℕ → ℕ
+deviceByte s k = getD s k 0
 
 -- "each device is either absent or present with its own bytes": a flag of 0 is an absent device, whose bytes go nowhere
 abbrev pub extenderOf : ℕ → ℕ → Extender
@@ -45,22 +45,22 @@ unfoldable pub devicesOf : List ℕ → Devices
 devicesOf s =
     record {
       rows = rowsOf s;
-      tape = byteAt s 24;
-      extender = extenderOf (byteAt s 25) (byteAt s 26);
-      ay = ayOf (byteAt s 27) (byteAt s 28);
-      joystick = joystickOf (byteAt s 29) (byteAt s 30);
-      mouse = mouseOf (byteAt s 31) (byteAt s 32) (byteAt s 33) (byteAt s 34);
+      tape = deviceByte s 24;
+      extender = extenderOf (deviceByte s 25) (deviceByte s 26);
+      ay = ayOf (deviceByte s 27) (deviceByte s 28);
+      joystick = joystickOf (deviceByte s 29) (deviceByte s 30);
+      mouse = mouseOf (deviceByte s 31) (deviceByte s 32) (deviceByte s 33) (deviceByte s 34);
     }
 
 -- "Flags and tape bit are 0 or 1." Where this is false the call gets refusal 4, "a device flag or the tape bit is above 1".
 abbrev pub flagsOf : List ℕ → Bool
 flagsOf s =
-    ltb (byteAt s 24) 2 && ltb (byteAt s 25) 2 && ltb (byteAt s 27) 2 && ltb (byteAt s 29) 2 && ltb (byteAt s 31) 2
+    ltb (deviceByte s 24) 2 && ltb (deviceByte s 25) 2 && ltb (deviceByte s 27) 2 && ltb (deviceByte s 29) 2 && ltb (deviceByte s 31) 2
 
 -- "Bytes of an absent device are ignored.": byte k belongs to a device whose flag is 0
 unfoldable pub ignored : List ℕ → ℕ → Bool
 ignored s k =
-    eqb k 26 && eqb (byteAt s 25) 0
-    || eqb k 28 && eqb (byteAt s 27) 0
-    || eqb k 30 && eqb (byteAt s 29) 0
-    || leb 32 k && leb k 34 && eqb (byteAt s 31) 0
+    eqb k 26 && eqb (deviceByte s 25) 0
+    || eqb k 28 && eqb (deviceByte s 27) 0
+    || eqb k 30 && eqb (deviceByte s 29) 0
+    || leb 32 k && leb k 34 && eqb (deviceByte s 31) 0

@@ -15,7 +15,7 @@ use Rattle.machine.specs.Timing.{frameEnd}
 use Rattle.record.specs.declared.Bus.{Bus}
 use Rattle.record.specs.declared.Held.the-variants.{WrongLength, Unsound, Sound}
 use Rattle.record.specs.Words.{byteAt, wordAt, longAt}
-use Rattle.record.specs.Record.{lastFrame, machineOf, machineAt, clockAt, passedAt, phaseAt, paintedAt, pagingAt, reportedAt, colourAt, blockedAt, pairsAt, inRange, clockInFrame, paintedInPlace, pairsInPlace, blockedAtEnd, pagingAllowed, soundBus, marked, codesInRange, recordOf, soundBytes, heldBy, recordLength}
+use Rattle.record.specs.Record.{lastFrame, machineOf, machineAt, clockAt, passedAt, phaseAt, paintedAt, pagingAt, reportedAt, beamColourAt, blockedAt, pairsAt, inRange, clockInFrame, paintedInPlace, pairsInPlace, blockedAtEnd, pagingAllowed, soundBus, marked, codesInRange, recordOf, soundBytes, heldBy, recordLength}
 
 -- a record made of what stands at the fields' places
 pub decoded : (s : List ℕ) (m : ZXMachine) (clock passed painted pairs : ℕ)
@@ -29,7 +29,7 @@ pub decoded : (s : List ℕ) (m : ZXMachine) (clock passed painted pairs : ℕ)
       painted = painted;
       paging = byteAt s pagingAt;
       reported = byteAt s reportedAt;
-      colour = byteAt s colourAt;
+      colour = byteAt s beamColourAt;
       blocked = eqb (byteAt s blockedAt) 1;
       pairs = pairs;
     })

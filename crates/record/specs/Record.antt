@@ -73,11 +73,11 @@ pagingAt = paintedAt + 2
 abbrev pub reportedAt : ℕ
 reportedAt = pagingAt + 1
 
-abbrev pub colourAt : ℕ
-colourAt = reportedAt + 1
+abbrev pub beamColourAt : ℕ
+beamColourAt = reportedAt + 1
 
 abbrev pub blockedAt : ℕ
-blockedAt = colourAt + 1
+blockedAt = beamColourAt + 1
 
 abbrev pub pairsAt : ℕ
 pairsAt = blockedAt + 1
@@ -112,7 +112,7 @@ recordOf s =
       painted = wordAt s paintedAt;
       paging = byteAt s pagingAt;
       reported = byteAt s reportedAt;
-      colour = byteAt s colourAt;
+      colour = byteAt s beamColourAt;
       blocked = eqb (byteAt s blockedAt) 1;
       pairs = wordAt s pairsAt;
     }

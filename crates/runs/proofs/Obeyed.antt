@@ -7,7 +7,7 @@ use mathlib.Core.Path.{_≡_, refl, sym, _∙_, ap}
 use contract.Lifetimes.{Lfts}
 use Rattle.contracts.specs.Timed.{Lent, lent, Outcome, outcome, start}
 use Rattle.contracts.specs.Plain.{told, Changed, Repaged}
-use Rattle.contracts.specs.Calls.{plain, mreq, noMreq, portIn, portOut, Helper, lineAddr, lineOf, columnOf, attrRowOf, attrColumnOf, colorOf, Question, byteRead, pagingRead, interruptAsked, framesAsked, pageAsked, blockAsked, shownAsked, stillAsked, help, Call, startAgain, takeTime, writeByte, writePaging, resetPassed, loadRam, ask, Result, result, withRam, withState, waited, helpedBy, replied, performed, TypedQuestion, Typed, lentOf, Made, buffersAfter, Obeyed, AllTyped}
+use Rattle.contracts.specs.Calls.{plain, mreq, noMreq, portIn, portOut, Helper, lineAddr, lineOf, columnOf, attrRowOf, attrColumnOf, colourBits, Question, byteRead, pagingRead, interruptAsked, framesAsked, pageAsked, blockAsked, shownAsked, stillAsked, help, Call, startAgain, takeTime, writeByte, writePaging, resetPassed, loadRam, ask, Result, result, withRam, withState, waited, helpedBy, replied, performed, TypedQuestion, Typed, lentOf, Made, buffersAfter, Obeyed, AllTyped}
 use Rattle.contracts.specs.Helpers.{helperCall}
 use Rattle.runs.specs.Run.{Slice, slice, Where, HelperAdmits, Replies, Steps, Run, Begins}
 
@@ -18,7 +18,7 @@ help-range lineOf κs n answer code answer′ s = s .0 .0 .1
 help-range columnOf κs n answer code answer′ s = s .0 .0 .1
 help-range attrRowOf κs n answer code answer′ s = s .0 .0 .1
 help-range attrColumnOf κs n answer code answer′ s = s .0 .0 .1
-help-range colorOf κs n answer code answer′ s = s .0 .0 .1
+help-range colourBits κs n answer code answer′ s = s .0 .0 .1
 
 ask-range : (q : Question) (at : ℕ → Where) (l : Lent) (out : List ℕ) (code : ℕ) (filled : List ℕ) → Replies q at l out code filled → TypedQuestion q
 ask-range (byteRead rom addr) at l out code filled s = s .1 .0 .1 .1 .1 .0 .1
@@ -52,7 +52,7 @@ helper-is lineOf κs n answer code answer′ s = s .1
 helper-is columnOf κs n answer code answer′ s = s .1
 helper-is attrRowOf κs n answer code answer′ s = s .1
 helper-is attrColumnOf κs n answer code answer′ s = s .1
-helper-is colorOf κs n answer code answer′ s = s .1
+helper-is colourBits κs n answer code answer′ s = s .1
 
 reply-is : (q : Question) (at : ℕ → Where) (l : Lent) (out : List ℕ) (code : ℕ) (filled : List ℕ) → Replies q at l out code filled
     → told code filled ≡ replied q l out

@@ -21,8 +21,8 @@ use Rattle.bus.proofs.TimedCalls.{AllInCall, plain-timed, address-timed, read-t
 use Rattle.answers.specs.declared.Verdict.{Verdict}
 use Rattle.answers.specs.declared.Verdict.the-variants.{Refused, Accepted}
 use Rattle.answers.specs.Order.{NoneHolds}
-use Rattle.contracts.specs.Timed.{Lent, lentWorld, lent, Outcome, outcome, timed, judgeWaitOf, judgePortOf, waitInternal, waitAt, readIo, writeIo}
-use Rattle.contracts.specs.Calls.{TimedCall, plain, mreq, noMreq, portIn, portOut, Helper, lineAddr, lineOf, columnOf, attrRowOf, attrColumnOf, colorOf, Question, byteRead, pagingRead, interruptAsked, framesAsked, pageAsked, blockAsked, shownAsked, stillAsked, help, Call, startAgain, takeTime, writeByte, writePaging, resetPassed, loadRam, ask, Result, waited, partOf, valueOf, helpedBy, replied, performed, timedCauses, TypedQuestion, Typed}
+use Rattle.contracts.specs.Timed.{Lent, lentWorld, lent, Outcome, outcome, timedCall, judgeWaitOf, judgePortOf, waitInternal, waitAt, readIo, writeIo}
+use Rattle.contracts.specs.Calls.{TimedCall, plain, mreq, noMreq, portIn, portOut, Helper, lineAddr, lineOf, columnOf, attrRowOf, attrColumnOf, colourBits, Question, byteRead, pagingRead, interruptAsked, framesAsked, pageAsked, blockAsked, shownAsked, stillAsked, help, Call, startAgain, takeTime, writeByte, writePaging, resetPassed, loadRam, ask, Result, waited, partOf, valueOf, helpedBy, replied, performed, timedCauses, TypedQuestion, Typed}
 use Rattle.contracts.specs.Helpers.{helperCall}
 use Rattle.contracts.proofs.Calls.{call-numbered, call-refused}
 use Rattle.runs.specs.Run.{slice, Where, HelperAdmits, Replies, Steps}
@@ -42,8 +42,8 @@ ram-stays m [] w i = refl
 ram-stays m (o ∷ os) w i = ram-stays m os (does m o w) (i .1) ∙ ram-by m o (w .core) (i .0, tt)
 
 timed-ram : (f : ZXMachine → Part) (value : ZXMachine → Core → ℕ) (l : Lent) (answer : List ℕ) → ((m : ZXMachine) (c : Core) → AllInCall m (f m c))
-    → (v : Verdict) → timed f value l answer v .slices .ram ≡ l .ram
-unfolding timed
+    → (v : Verdict) → timedCall f value l answer v .slices .ram ≡ l .ram
+unfolding timedCall
 timed-ram f value l answer i (Refused e) = refl
 timed-ram f value l answer i (Accepted bus) =
     let m = bus .machine in
@@ -144,7 +144,7 @@ module _ (at : ℕ → Where) (l : Lent) (r : LentRoomy l) where
   helper-on columnOf n out typed own = (((refl, typed), (room out own, tt)), refl)
   helper-on attrRowOf n out typed own = (((refl, typed), (room out own, tt)), refl)
   helper-on attrColumnOf n out typed own = (((refl, typed), (room out own, tt)), refl)
-  helper-on colorOf n out typed own = (((refl, typed), (room out own, tt)), refl)
+  helper-on colourBits n out typed own = (((refl, typed), (room out own, tt)), refl)
 
   ask-on : (q : Question) (out : List ℕ) → TypedQuestion q → QuestionRoomy q × Roomy out → Replies q at l out (replied q l out .code) (replied q l out .answer)
   unfolding replied

@@ -11,7 +11,7 @@ use denote.Ref.{RefT}
 use denote.Triple.Clauses.{AtExit}
 use borrow.Fn.Kinds.{PK, RK, Out, Dens, GoodsP, resT, endedOf}
 use Rattle.contracts.specs.Timed.{Lent}
-use Rattle.contracts.specs.Calls.{plain, mreq, noMreq, portIn, portOut, Helper, lineAddr, lineOf, columnOf, attrRowOf, attrColumnOf, colorOf, Question, byteRead, pagingRead, interruptAsked, framesAsked, pageAsked, blockAsked, shownAsked, stillAsked, help, Call, startAgain, takeTime, writeByte, writePaging, resetPassed, loadRam, ask, Result, result, withRam, withState, lentOf, Made, buffersAfter}
+use Rattle.contracts.specs.Calls.{plain, mreq, noMreq, portIn, portOut, Helper, lineAddr, lineOf, columnOf, attrRowOf, attrColumnOf, colourBits, Question, byteRead, pagingRead, interruptAsked, framesAsked, pageAsked, blockAsked, shownAsked, stillAsked, help, Call, startAgain, takeTime, writeByte, writePaging, resetPassed, loadRam, ask, Result, result, withRam, withState, lentOf, Made, buffersAfter}
 use Rattle.ulb_start.proofs.ulb_start.Reads as ulb-start
 use Rattle.ulb_start.proofs.ulb_start.Kinds as kinds-start
 use Rattle.ulb_wait_internal.proofs.ulb_wait_internal.Reads as ulb-wait-internal
@@ -103,7 +103,7 @@ HelperAdmits lineOf κs n answer code answer′ = Admits 1 kinds-bitmap-line-rel
 HelperAdmits columnOf κs n answer code answer′ = Admits 1 kinds-bitmap-col-rel.ps kinds-bitmap-col-rel.r ulb-bitmap-col-rel.Post κs (n & answer & tt) code (n & answer′ & tt)
 HelperAdmits attrRowOf κs n answer code answer′ = Admits 1 kinds-attr-row-rel.ps kinds-attr-row-rel.r ulb-attr-row-rel.Post κs (n & answer & tt) code (n & answer′ & tt)
 HelperAdmits attrColumnOf κs n answer code answer′ = Admits 1 kinds-attr-col-rel.ps kinds-attr-col-rel.r ulb-attr-col-rel.Post κs (n & answer & tt) code (n & answer′ & tt)
-HelperAdmits colorOf κs n answer code answer′ = Admits 1 kinds-color-from-bits.ps kinds-color-from-bits.r ulb-color-from-bits.Post κs (n & answer & tt) code (n & answer′ & tt)
+HelperAdmits colourBits κs n answer code answer′ = Admits 1 kinds-color-from-bits.ps kinds-color-from-bits.r ulb-color-from-bits.Post κs (n & answer & tt) code (n & answer′ & tt)
 
 -- A QUESTION, on what is lent of the machine: `out` is the slice that it fills, `filled` what stands there at exit
 abbrev pub Replies : Question → (at : ℕ → Where) → Lent → List ℕ → ℕ → List ℕ → Type 0

@@ -13,7 +13,7 @@ use borrow.Author.Tests.{le-leb, lt-leb, ne-eqb}
 use Rattle.laws.proofs.Cases.{by-bool, by-le, by-eq, split}
 use Rattle.offsets.specs.Offset.{lineStart, offsetOf}
 use Rattle.screen.specs.Address.{lineOf}
-use Rattle.screen.specs.Color.{attributeOf}
+use Rattle.screen.specs.Colour.{attributeOf}
 use Rattle.screen.proofs.RoundTrips.{line-back, offset-back}
 use Rattle.rustzx.specs.Panics.{done, some, each}
 use Rattle.rustzx.specs.Colors.{ZXAttribute}

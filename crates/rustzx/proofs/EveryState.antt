@@ -11,7 +11,7 @@ use lib.ListN.{length, replicate, length-replicate}
 use Rattle.machine.specs.declared.ZXMachine as ours
 use Rattle.machine.specs.declared.ZXMachine.the-variants as our
 use Rattle.machine.specs.Numbers.{specsOf}
-use Rattle.screen.specs.Color.{colorOf}
+use Rattle.screen.specs.Colour.{colourOf}
 use Rattle.memory.specs.Paging.{bit, memoryMap, shownPage}
 use Rattle.memory.specs.Memory.{ramPage}
 use Rattle.bus.specs.World.{World}
@@ -49,7 +49,7 @@ abbrev pub borderOf : World → ZXBorder
 borderOf w =
     record {
       buffer = w .edge .pixels;
-      beamLast = record { line = 2 * w .edge .pairs / 320; pixel = 2 * w .edge .pairs % 320; color = rustColor (colorOf (w .edge .colour)) };
+      beamLast = record { line = 2 * w .edge .pairs / 320; pixel = 2 * w .edge .pairs % 320; color = rustColor (colourOf (w .edge .colour)) };
       borderChanged = true;
       beamBlock = w .edge .blocked;
     }
@@ -71,7 +71,7 @@ rustOf m rom w =
       memory = record { rom = rom; ram = w .core .ram; map = mapOf m (w .core .paging) };
       screen = screenOf m w;
       border = borderOf w;
-      borderColor = rustColor (colorOf (w .core .reported));
+      borderColor = rustColor (colourOf (w .core .reported));
       frameClocks = w .core .clock;
       passedFrames = w .core .passed;
       pagingEnabled = pagingOpen m (w .core .paging);

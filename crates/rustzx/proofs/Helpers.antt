@@ -11,19 +11,19 @@ use Rattle.laws.proofs.Below.{same}
 use Rattle.offsets.specs.Offset.{lineStart}
 use Rattle.screen.specs.declared.Helped.{Helped}
 use Rattle.screen.specs.declared.Helped.the-variants.{Number, OutOfRange}
-use Rattle.screen.specs.declared.Colored.{Colored}
-use Rattle.screen.specs.declared.Colored.the-variants as colored
+use Rattle.screen.specs.declared.Coloured.{Coloured}
+use Rattle.screen.specs.declared.Coloured.the-variants as coloured
 use Rattle.screen.specs.declared.ZXColor as picture
 use Rattle.screen.specs.declared.ZXColor.the-variants as color
 use Rattle.screen.specs.declared.ZXBrightness as bright
 use Rattle.screen.specs.declared.ZXBrightness.the-variants as brightness
 use Rattle.screen.specs.declared.ZXAttribute as attribute
 use Rattle.screen.specs.Address.{lineAddress, lineOf, lineAt, columnAt, isAttribute, attributeRow, attributeColumn}
-use Rattle.screen.specs.Color as ours
-use Rattle.screen.specs.Color.{bit, colorOf, colorNumber, attributeOf}
+use Rattle.screen.specs.Colour as ours
+use Rattle.screen.specs.Colour.{bit, colourOf, colourNumber, attributeOf}
 use Rattle.screen.specs.Pixel.{pixelByte}
 use Rattle.screen.proofs.OneBit.{mask-bit}
-use Rattle.screen.proofs.RoundTrips.{number-then-color}
+use Rattle.screen.proofs.RoundTrips.{number-then-colour}
 use Rattle.rustzx.specs.Panics.{Run, done, panics, assert}
 use Rattle.rustzx.specs.Addresses.{lineAddr, bitmapLineAddr, lineRel, bitmapLineRel, bitmapColRel, attrRowRel, attrColRel}
 use Rattle.rustzx.specs.Colors.{ZXColor, Black, Blue, Red, Purple, Green, Cyan, Yellow, White, ZXBrightness, Normal, Bright, ZXAttribute, fromBits, colorByte, brightnessByte, fromByte, activeColor}
@@ -119,12 +119,12 @@ attribute-by f e g h = cc
 pub attribute-there : (a : attribute.ZXAttribute) → ourAttribute (rustAttribute a) ≡ a
 attribute-there a = attribute-by (a .flash) (color-there (a .ink)) (color-there (a .paper)) (brightness-there (a .brightness))
 
-abbrev pub coloredRun : Colored → Run ZXColor
-coloredRun (colored.Color c) = done (rustColor c)
-coloredRun colored.OutOfRange = panics
+abbrev pub colouredRun : Coloured → Run ZXColor
+colouredRun (coloured.Colour c) = done (rustColor c)
+colouredRun coloured.OutOfRange = panics
 
 -- from_bits: every number, those that panic among them
-pub from-bits-is : (n : ℕ) → fromBits n ≡ coloredRun (ours.fromBits n)
+pub from-bits-is : (n : ℕ) → fromBits n ≡ colouredRun (ours.fromBits n)
 unfolding fromBits
 from-bits-is zero = refl
 from-bits-is (suc zero) = refl
@@ -139,11 +139,11 @@ from-bits-is (suc (suc (suc (suc (suc (suc (suc (suc n)))))))) =
     rw l
 
 -- a number below 8 is its colour
-pub from-bits-done : (n : ℕ) → n < 8 → fromBits n ≡ done (rustColor (colorOf n))
+pub from-bits-done : (n : ℕ) → n < 8 → fromBits n ≡ done (rustColor (colourOf n))
 from-bits-done n h = let l = le-leb n 7 (omega arith) in from-bits-is n ∙ rw l
 
 -- u8::from(color)
-pub color-byte-is : (c : ZXColor) → colorByte c ≡ colorNumber (ourColor c)
+pub color-byte-is : (c : ZXColor) → colorByte c ≡ colourNumber (ourColor c)
 color-byte-is Black = refl
 color-byte-is Blue = refl
 color-byte-is Red = refl
@@ -153,12 +153,12 @@ color-byte-is Cyan = refl
 color-byte-is Yellow = refl
 color-byte-is White = refl
 
-pub color-number : (c : picture.ZXColor) → colorByte (rustColor c) ≡ colorNumber c
-color-number c = color-byte-is (rustColor c) ∙ ap colorNumber (color-there c)
+pub color-number : (c : picture.ZXColor) → colorByte (rustColor c) ≡ colourNumber c
+color-number c = color-byte-is (rustColor c) ∙ ap colourNumber (color-there c)
 
 -- a number below 8 is that of its colour
-pub color-back : (n : ℕ) → n < 8 → colorByte (rustColor (colorOf n)) ≡ n
-color-back n h = color-number (colorOf n) ∙ number-then-color n (omega arith) .1
+pub color-back : (n : ℕ) → n < 8 → colorByte (rustColor (colourOf n)) ≡ n
+color-back n h = color-number (colourOf n) ∙ number-then-colour n (omega arith) .1
 
 -- what set_color puts into a frame buffer is the pixel's byte
 pub pixel-byte-is : (c : ZXColor) (b : ZXBrightness) → colorByte c + 8 * brightnessByte b ≡ pixelByte (ourColor c) (ourBrightness b)
@@ -177,7 +177,7 @@ pub from-byte-is : (v : ℕ) → fromByte v ≡ done (rustAttribute (attributeOf
 unfolding fromByte
 from-byte-is v =
     rw (and-mask v 3, and-mask (v / 8) 3, from-bits-done (v % 8) (omega arith), from-bits-done (v / 8 % 8) (omega arith), bit-set 6 v, bit-set 7 v)
-    (ap (λ (b : ZXBrightness). done (record { ink = rustColor (colorOf (v % 8)); paper = rustColor (colorOf (v / 8 % 8)); flash = bit 7 v; brightness = b })) (by-test (bit 6 v))) where
+    (ap (λ (b : ZXBrightness). done (record { ink = rustColor (colourOf (v % 8)); paper = rustColor (colourOf (v / 8 % 8)); flash = bit 7 v; brightness = b })) (by-test (bit 6 v))) where
       by-test : (t : Bool) → cond t Bright Normal ≡ rustBrightness (cond t brightness.Bright brightness.Normal)
       by-test true = refl
       by-test false = refl

@@ -13,7 +13,7 @@ use Rattle.machine.specs.Numbers.{specsOf}
 use Rattle.memory.specs.declared.Page as stored
 use Rattle.memory.specs.declared.Page.the-variants as page
 use Rattle.memory.specs.Paging.{bit, pageAt, pageExists, pageContended}
-use Rattle.memory.specs.Memory.{placeIn, placeOf, byteIn, byteAt, pokedIn, poked, ramPage}
+use Rattle.memory.specs.Memory.{placeIn, placeOf, byteIn, peeked, pokedIn, poked, ramPage}
 use Rattle.machine.specs.declared.ZXMachine as ours
 use Rattle.machine.specs.declared.ZXMachine.the-variants as our
 use Rattle.rustzx.specs.Machine.{ZXMachine, Sinclair48K, Sinclair128K}
@@ -41,7 +41,7 @@ module _ (m : ours.ZXMachine) (rom ram : List ℕ) (paging : ℕ) (mem : ZXMemor
   read-in (Rom p) offset = let e : p * 16384 + offset ≡ 16384 * p + offset = omega arith in ap₂ (λ (l : List ℕ) (k : ℕ). getD l k 0) (same .rom) e
   read-in (Ram p) offset = let e : p * 16384 + offset ≡ 16384 * p + offset = omega arith in ap₂ (λ (l : List ℕ) (k : ℕ). getD l k 0) (same .ram) e
 
-  pub read-is : (addr : ℕ) → read mem addr ≡ byteAt m paging rom ram addr
+  pub read-is : (addr : ℕ) → read mem addr ≡ peeked m paging rom ram addr
   unfolding read placeOf
   read-is addr = read-in (getPage mem addr) (addr % 16384) ∙ ap (λ (p : stored.Page). byteIn (placeIn p (addr % 16384)) rom ram) (page-is addr)
 

@@ -11,7 +11,7 @@ use Rattle.laws.proofs.Cases.{and-right}
 use Rattle.machine.specs.Numbers.{specsOf}
 use Rattle.machine.specs.Timing.{delay}
 use Rattle.machine.specs.Contended.{portContended}
-use Rattle.screen.specs.Color.{colorOf}
+use Rattle.screen.specs.Colour.{colourOf}
 use Rattle.memory.specs.Paging.{pageContended, write7ffd, pagedCode}
 use Rattle.ports.specs.declared.Devices.{Devices}
 use Rattle.ports.specs.declared.Extender.{Extender}
@@ -158,9 +158,9 @@ module _ (m : ZXMachine) (rom : List ℕ) where
   border-hears v c w r =
       let h : v % 8 < 8 = omega arith in
       record {
-        value = reaches toBorder (setBorderColor (c .frameClocks) (rustColor (colorOf (v % 8))) c);
+        value = reaches toBorder (setBorderColor (c .frameClocks) (rustColor (colourOf (v % 8))) c);
         ends = ap (λ (x : Run ZXColor). run.andThen x (λ color. done (reaches toBorder (setBorderColor (c .frameClocks) color c)))) (ap fromBits (and-mask v 3) ∙ from-bits-done (v % 8) h);
-        holds = (refl, colour-related m rom c w (rustColor (colorOf (v % 8))) (v % 8) (color-back (v % 8) h) r);
+        holds = (refl, colour-related m rom c w (rustColor (colourOf (v % 8))) (v % 8) (color-back (v % 8) h) r);
       }
 
   -- paging: on a machine that has it, the code is the number that the 7FFD write answers

@@ -14,7 +14,7 @@ use lib.Bits.{bitAnd, bitXor, and-mask}
 use borrow.Author.Tests.{ltb-true, ltb-false, leb-true, leb-false, lt-ltb, le-ltb, le-leb, eq-eqb, ne-eqb}
 use Rattle.machine.specs.Numbers.{specsOf}
 use Rattle.screen.proofs.OneBit.{mask-bit}
-use Rattle.memory.specs.Memory.{placeOf, byteAt}
+use Rattle.memory.specs.Memory.{placeOf, peeked}
 use Rattle.ports.specs.declared.Devices.{Devices}
 use Rattle.ports.specs.declared.Extender.{Extender}
 use Rattle.ports.specs.declared.Extender.the-variants as extender
@@ -86,7 +86,7 @@ keys-are d port h = rw (rows-are d port 8 (omega arith)) (tape-is (d .tape) (row
 
 -- ---- the floating bus
 -- what the ULA fetches stands at 4000h to 7FFFh, which is RAM on both machines
-video-byte : (m : ZXMachine) (paging : ℕ) (rom ram : List ℕ) (addr : ℕ) → addr / 16384 ≡ 1 → byteAt (ourMachine m) paging rom ram addr ≡ byteAt (ourMachine m) paging [] ram addr
+video-byte : (m : ZXMachine) (paging : ℕ) (rom ram : List ℕ) (addr : ℕ) → addr / 16384 ≡ 1 → peeked (ourMachine m) paging rom ram addr ≡ peeked (ourMachine m) paging [] ram addr
 unfolding placeOf
 video-byte Sinclair48K paging rom ram addr e = rw e
 video-byte Sinclair128K paging rom ram addr e = rw e
@@ -109,7 +109,7 @@ module _ (m : ZXMachine) (rom : List ℕ) (c : ZXController) (core : Core) (mem 
   abbrev byte : FloatingPlace → ℕ
   byte p = floatingByte (ourMachine m) (floatingAddress p) core
 
-  read-video : (addr : ℕ) → addr / 16384 ≡ 1 → read (c .memory) addr ≡ byteAt (ourMachine m) (core .paging) [] (core .ram) addr
+  read-video : (addr : ℕ) → addr / 16384 ≡ 1 → read (c .memory) addr ≡ peeked (ourMachine m) (core .paging) [] (core .ram) addr
   read-video addr e = read-is (ourMachine m) rom (core .ram) (core .paging) (c .memory) mem addr ∙ video-byte m (core .paging) rom (core .ram) addr e
 
   pick-byte : (t : Bool) {x y : Run ℕ} (u v : FloatingPlace) → x ≡ done (byte u) → y ≡ done (byte v) → cond t x y ≡ done (byte (cond t u v))

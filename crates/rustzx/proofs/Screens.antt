@@ -18,8 +18,8 @@ use Rattle.machine.proofs.Bounds.{blocks-small, position-small}
 use Rattle.offsets.specs.Offset.{offsetOf}
 use Rattle.screen.specs.declared.ZXColor as picture
 use Rattle.screen.specs.declared.ZXAttribute as attribute
-use Rattle.screen.specs.Color as ours
-use Rattle.screen.specs.Color.{bit, attributeOf}
+use Rattle.screen.specs.Colour as ours
+use Rattle.screen.specs.Colour.{bit, attributeOf}
 use Rattle.screen.specs.Pixel.{pixelByte, pixelOf, blockOf}
 use Rattle.screen.specs.Address.{attributeOffset}
 use Rattle.paint.specs.Paint.{blockAt, paint}

@@ -8,7 +8,7 @@ use lib.ListN.{length, getD, drop, replicate, length-replicate, getD-replicate}
 use lib.Seq.{getD-take, getD-drop}
 use Rattle.machine.specs.Numbers.{specsOf}
 use Rattle.offsets.specs.Offset.{lineStart, offsetOf}
-use Rattle.screen.specs.Color.{attributeOf}
+use Rattle.screen.specs.Colour.{attributeOf}
 use Rattle.memory.specs.Paging.{memoryMap, shownPage}
 use Rattle.memory.specs.Memory.{ramPage}
 use Rattle.bus.specs.World.{clearRam, clearPicture, clearBorder, started}

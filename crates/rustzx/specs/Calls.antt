@@ -11,7 +11,7 @@ use Rattle.machine.specs.Timing.{interrupt}
 use Rattle.record.specs.Record.{flagByte, HasRoom}
 use Rattle.memory.specs.Paging as paging
 use Rattle.memory.specs.Paging.{pageAt, pageExists, pagedCode}
-use Rattle.memory.specs.Memory.{byteAt, ramPage, pagePart}
+use Rattle.memory.specs.Memory.{peeked, ramPage, pagePart}
 use Rattle.ports.specs.declared.Devices.{Devices}
 use Rattle.bus.specs.World.{World}
 use Rattle.bus.specs.Time.{shownPicture}
@@ -127,7 +127,7 @@ answerOf m rom (waitMreq addr n) w = []
 answerOf m rom (waitNoMreq addr n) w = []
 answerOf m rom (readIo d port) w = readValue m d port (w .core) ∷ []
 answerOf m rom (writeIo d port value) w = writeCode m d port value (w .core) ∷ []
-answerOf m rom (readInternal addr) w = byteAt m (w .core .paging) rom (w .core .ram) addr ∷ []
+answerOf m rom (readInternal addr) w = peeked m (w .core .paging) rom (w .core .ram) addr ∷ []
 answerOf m rom (writeInternal addr value) w = []
 answerOf m rom (write7ffd value) w = pagedCode (paging.write7ffd m (w .core .paging) value) ∷ []
 answerOf m rom read7ffd w = w .core .paging ∷ []

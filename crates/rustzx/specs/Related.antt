@@ -16,7 +16,7 @@ use Rattle.screen.specs.declared.ZXColor.the-variants as color
 use Rattle.screen.specs.declared.ZXBrightness as bright
 use Rattle.screen.specs.declared.ZXBrightness.the-variants as brightness
 use Rattle.screen.specs.declared.ZXAttribute as attribute
-use Rattle.screen.specs.Color.{attributeOf}
+use Rattle.screen.specs.Colour.{attributeOf}
 use Rattle.border.specs.Edge.{Edge}
 use Rattle.memory.specs.declared.Page as stored
 use Rattle.memory.specs.declared.Page.the-variants as page

@@ -10,7 +10,7 @@ use lib.Dec.{eqb}
 use lib.Bits.{bitAnd, bitXor, and-high, xor-shr, xor-mod}
 use borrow.Author.Tests.{ne-eqb}
 use Rattle.laws.proofs.Below.{same}
-use Rattle.screen.specs.Color.{bit}
+use Rattle.screen.specs.Colour.{bit}
 
 digit : (x m : ℕ) → x < 2 → 0 < m → eqb (x * m) 0 ≡ not (eqb x 1)
 digit zero m h p = rw (zero-mul m)

@@ -1,4 +1,4 @@
--- Document 01's attribute and pixel rule (specs/Color, specs/Pixel) agree with the public pages' fields (specs/Pages) for every byte, and
+-- Document 01's attribute and pixel rule (specs/Colour, specs/Pixel) agree with the public pages' fields (specs/Pages) for every byte, and
 -- the pages' flash turns over every 16 frames, for ever. Flash against document 01's phase stands in bus, which has the phase.
 -- Assumes nothing.
 use mathlib.Core.Path.{_≡_, refl, ap, _∙_}
@@ -8,10 +8,10 @@ use native.Mathlib.Omega.{arith}
 use lib.Dec.{eqb}
 use borrow.Author.Tests.{ne-eqb}
 use Rattle.screen.specs.declared.ZXBrightness.the-variants.{Normal, Bright}
-use Rattle.screen.specs.Color.{bit, colorOf, colorNumber, attributeOf, activeColor}
+use Rattle.screen.specs.Colour.{bit, colourOf, colourNumber, attributeOf, activeColor}
 use Rattle.screen.specs.Pixel.{inkOf, paperOf, pixelOf}
 use Rattle.screen.specs.Pages.{pageFlash, pageBright, pagePaper, pageInk, inkShown, paperShown, exchangedAfter}
-use Rattle.screen.proofs.RoundTrips.{number-then-color}
+use Rattle.screen.proofs.RoundTrips.{number-then-colour}
 
 -- three bits are a number below 8
 three : (n : ℕ) → n % 8 ≡ 4 * (n / 2 / 2 % 2) + 2 * (n / 2 % 2) + n % 2
@@ -31,11 +31,11 @@ paper-is byte =
 
 module _ (byte : ℕ) where
   -- THE FOUR FIELDS OF AN ATTRIBUTE ARE THE PAGES'.
-  pub agree-ink : colorNumber (attributeOf byte .ink) ≡ pageInk byte
-  agree-ink = number-then-color (byte % 8) (omega arith) .1 ∙ ink-is byte
+  pub agree-ink : colourNumber (attributeOf byte .ink) ≡ pageInk byte
+  agree-ink = number-then-colour (byte % 8) (omega arith) .1 ∙ ink-is byte
 
-  pub agree-paper : colorNumber (attributeOf byte .paper) ≡ pagePaper byte
-  agree-paper = number-then-color (byte / 8 % 8) (omega arith) .1 ∙ paper-is byte
+  pub agree-paper : colourNumber (attributeOf byte .paper) ≡ pagePaper byte
+  agree-paper = number-then-colour (byte / 8 % 8) (omega arith) .1 ∙ paper-is byte
 
   pub agree-brightness : attributeOf byte .brightness ≡ cond (pageBright byte) Bright Normal
   agree-brightness = refl
@@ -51,17 +51,17 @@ module _ (byte : ℕ) where
   agree-paper-byte = ap (λ (n : ℕ). n + cond (pageBright byte) 8 0) (paper-is byte)
 
   -- FLASH EXCHANGES INK AND PAPER: what document 01's rule takes for ink and for paper, with flash on or off, is what the pages show.
-  pub agree-ink-shown : (on : Bool) → colorNumber (activeColor (attributeOf byte) true on) ≡ inkShown byte on
+  pub agree-ink-shown : (on : Bool) → colourNumber (activeColor (attributeOf byte) true on) ≡ inkShown byte on
   unfolding xor
   agree-ink-shown on = swaps (bit 7 byte && on) where
-    swaps : (t : Bool) → colorNumber (cond (xor true t) (colorOf (byte % 8)) (colorOf (byte / 8 % 8))) ≡ cond t (pagePaper byte) (pageInk byte)
+    swaps : (t : Bool) → colourNumber (cond (xor true t) (colourOf (byte % 8)) (colourOf (byte / 8 % 8))) ≡ cond t (pagePaper byte) (pageInk byte)
     swaps true = agree-paper
     swaps false = agree-ink
 
-  pub agree-paper-shown : (on : Bool) → colorNumber (activeColor (attributeOf byte) false on) ≡ paperShown byte on
+  pub agree-paper-shown : (on : Bool) → colourNumber (activeColor (attributeOf byte) false on) ≡ paperShown byte on
   unfolding xor
   agree-paper-shown on = swaps (bit 7 byte && on) where
-    swaps : (t : Bool) → colorNumber (cond (xor false t) (colorOf (byte % 8)) (colorOf (byte / 8 % 8))) ≡ cond t (pageInk byte) (pagePaper byte)
+    swaps : (t : Bool) → colourNumber (cond (xor false t) (colourOf (byte % 8)) (colourOf (byte / 8 % 8))) ≡ cond t (pageInk byte) (pagePaper byte)
     swaps true = agree-ink
     swaps false = agree-paper
 

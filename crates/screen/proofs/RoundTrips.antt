@@ -10,9 +10,9 @@ use Rattle.offsets.specs.Offset.{lineStart, offsetOf}
 use Rattle.screen.specs.declared.Helped.the-variants.{Number}
 use Rattle.screen.specs.declared.ZXColor.{ZXColor}
 use Rattle.screen.specs.declared.ZXColor.the-variants.{Black, Blue, Red, Purple, Green, Cyan, Yellow, White}
-use Rattle.screen.specs.declared.Colored.the-variants.{Color}
+use Rattle.screen.specs.declared.Coloured.the-variants.{Colour}
 use Rattle.screen.specs.Address.{lineOf, lineAddress, lineAt, columnAt, attributeRow, attributeColumn, attributeOffset}
-use Rattle.screen.specs.Color.{colorOf, colorNumber, fromBits}
+use Rattle.screen.specs.Colour.{colourOf, colourNumber, fromBits}
 
 -- an offset by its four parts: third, line of a row, row of a third, column
 module _ (a b c col : ℕ) (hb : b < 8) (hc : c < 8) (hcol : col < 32) where
@@ -108,21 +108,21 @@ bytes-of-block k h =
     (b .1, b .2, a .0, a .1)
 
 -- The eight colours and the numbers 0 to 7 are the same, both ways.
-pub color-then-number : (c : ZXColor) → fromBits (colorNumber c) ≡ Color c
-color-then-number Black = refl
-color-then-number Blue = refl
-color-then-number Red = refl
-color-then-number Purple = refl
-color-then-number Green = refl
-color-then-number Cyan = refl
-color-then-number Yellow = refl
-color-then-number White = refl
+pub colour-then-number : (c : ZXColor) → fromBits (colourNumber c) ≡ Colour c
+colour-then-number Black = refl
+colour-then-number Blue = refl
+colour-then-number Red = refl
+colour-then-number Purple = refl
+colour-then-number Green = refl
+colour-then-number Cyan = refl
+colour-then-number Yellow = refl
+colour-then-number White = refl
 
-pub number-then-color : (n : ℕ) → n ≤ 7 → (fromBits n ≡ Color (colorOf n)) × (colorNumber (colorOf n) ≡ n)
-number-then-color n h = (rw (le-leb n 7 h), same (λ k. colorNumber (colorOf k)) (λ k. k) 8 tt n (omega arith))
+pub number-then-colour : (n : ℕ) → n ≤ 7 → (fromBits n ≡ Colour (colourOf n)) × (colourNumber (colourOf n) ≡ n)
+number-then-colour n h = (rw (le-leb n 7 h), same (λ k. colourNumber (colourOf k)) (λ k. k) 8 tt n (omega arith))
 
 -- a colour's number is at most 7
-pub number-small : (c : ZXColor) → colorNumber c ≤ 7
+pub number-small : (c : ZXColor) → colourNumber c ≤ 7
 number-small Black = lit≤ tt
 number-small Blue = lit≤ tt
 number-small Red = lit≤ tt

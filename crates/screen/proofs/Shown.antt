@@ -6,7 +6,7 @@ use mathlib.Core.List.{List}
 use Prim.Native.Nat.{ℕ, _+_, _-_, _*_, _<_}
 use lib.Dec.{lit<}
 use lib.Bits.{bitXor}
-use Rattle.screen.specs.Color.{bit}
+use Rattle.screen.specs.Colour.{bit}
 use Rattle.screen.specs.Pixel.{inkOf, paperOf, blockOf}
 use Rattle.screen.specs.Packed.{bitsOf, packed, bytesOf}
 use Rattle.screen.proofs.OneBit.{bit-over}

@@ -1,5 +1,5 @@
 pub mod Address
-pub mod Color
+pub mod Colour
 pub mod Pixel
 pub mod Packed
 pub mod Pages

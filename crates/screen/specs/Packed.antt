@@ -3,7 +3,7 @@
 use Prim.Native.Nat.{ℕ, zero, suc, _+_, _*_, _/_, _%_}
 use mathlib.Core.Bool.{Bool, cond}
 use mathlib.Core.List.{List, [], _∷_}
-use Rattle.screen.specs.Color.{bit}
+use Rattle.screen.specs.Colour.{bit}
 
 -- the bits of a byte, the highest first
 abbrev pub bitsOf : ℕ → List Bool

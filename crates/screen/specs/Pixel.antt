@@ -6,7 +6,7 @@ use mathlib.Core.List.{List, [], _∷_}
 use Rattle.screen.specs.declared.ZXColor.{ZXColor}
 use Rattle.screen.specs.declared.ZXBrightness.{ZXBrightness}
 use Rattle.screen.specs.declared.ZXBrightness.the-variants.{Normal, Bright}
-use Rattle.screen.specs.Color.{bit, colorNumber}
+use Rattle.screen.specs.Colour.{bit, colourNumber}
 
 -- "one byte a pixel: colour 0..7, plus 8 if bright"
 abbrev pub inkOf : ℕ → ℕ
@@ -27,5 +27,5 @@ blockOf attr bitmap flash =
 
 -- the byte of a colour and a brightness, as a frame buffer takes them from the Rust
 abbrev pub pixelByte : ZXColor → ZXBrightness → ℕ
-pixelByte color Normal = colorNumber color
-pixelByte color Bright = colorNumber color + 8
+pixelByte colour Normal = colourNumber colour
+pixelByte colour Bright = colourNumber colour + 8

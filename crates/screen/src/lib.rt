@@ -1,11 +1,11 @@
 // What it is: the screen of the ULA: the five address helpers, colours and attributes, and the pixel rule. Crate `paint` paints with it.
 // What it promises: each helper answers for every number, in range or not; the eight pixels of a block are what the pixel rule gives for its two bytes.
-// Where its definitions stand: specs/Address.antt (helpers), specs/Color.antt (colours, attributes), specs/Pixel.antt (the pixel rule), specs/Packed.antt (eight pixels in one number).
+// Where its definitions stand: specs/Address.antt (helpers), specs/Colour.antt (colours, attributes), specs/Pixel.antt (the pixel rule), specs/Packed.antt (eight pixels in one number).
 ghost use mathlib.Core.Path.{_≡_};
 ghost use mathlib.Core.Bool.{cond, _&&_};
 ghost use lib.Bits.{bitXor};
 ghost use Rattle.screen.specs.Address.{lineAddress, lineAt, columnAt, attributeRow, attributeColumn};
-ghost use Rattle.screen.specs.Color.{bit, colorOf, fromBits, colorNumber, brightnessOf, attributeOf, activeColor};
+ghost use Rattle.screen.specs.Colour.{bit, colourOf, fromBits, colourNumber, brightnessOf, attributeOf, activeColor};
 ghost use Rattle.screen.specs.Pixel.{inkOf, paperOf, blockOf, pixelByte};
 ghost use Rattle.screen.specs.Packed.{bitsOf, packed, bytesOf};
 
@@ -91,26 +91,26 @@ pub enum ZXColor {
 }
 
 // What `from_bits` answers: a colour, or that the number is above 7 (refusal 8).
-pub enum Colored {
-    Color(ZXColor),
+pub enum Coloured {
+    Colour(ZXColor),
     OutOfRange,
 }
 
 impl ZXColor {
-    pub fn from_bits(bits: u32) -> Colored
+    pub fn from_bits(bits: u32) -> Coloured
         ensures { λ r. ⌜ r ≡ fromBits bits ⌝ }
     {
         if bits <= 7 {
-            let c = color(bits as u8);
-            Colored::Color(c)
+            let c = colour(bits as u8);
+            Coloured::Colour(c)
         } else {
-            Colored::OutOfRange
+            Coloured::OutOfRange
         }
     }
 
     // The colour's number.
     pub fn bits(self) -> u8
-        ensures { λ r. ⌜ r ≡ colorNumber self ⌝ }
+        ensures { λ r. ⌜ r ≡ colourNumber self ⌝ }
     {
         match self {
             ZXColor::Black => 0,
@@ -126,8 +126,8 @@ impl ZXColor {
 }
 
 // The colour of a number; its callers have judged that it is below 8.
-fn color(bits: u8) -> ZXColor
-    ensures { λ r. ⌜ r ≡ colorOf bits ⌝ }
+fn colour(bits: u8) -> ZXColor
+    ensures { λ r. ⌜ r ≡ colourOf bits ⌝ }
 {
     match bits {
         0 => ZXColor::Black,
@@ -167,8 +167,8 @@ impl ZXAttribute {
     pub fn from_byte(byte: u8) -> ZXAttribute
         ensures { λ r. ⌜ r ≡ attributeOf byte ⌝ }
     {
-        let ink = color(byte & 0x07);
-        let paper = color((byte >> 3) & 0x07);
+        let ink = colour(byte & 0x07);
+        let paper = colour((byte >> 3) & 0x07);
         let brightness = brightness(byte);
         let flash = (byte & 0x80) != 0;
         ZXAttribute {
@@ -194,10 +194,10 @@ impl ZXAttribute {
 }
 
 // The byte of a pixel of that colour and brightness.
-pub fn pixel_byte(color: ZXColor, brightness: ZXBrightness) -> u8
-    ensures { λ r. ⌜ r ≡ pixelByte color brightness ⌝ }
+pub fn pixel_byte(colour: ZXColor, brightness: ZXBrightness) -> u8
+    ensures { λ r. ⌜ r ≡ pixelByte colour brightness ⌝ }
 {
-    let bits = color.bits();
+    let bits = colour.bits();
     match brightness {
         ZXBrightness::Normal => bits,
         ZXBrightness::Bright => bits + 8,

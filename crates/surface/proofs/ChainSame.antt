@@ -31,7 +31,7 @@ use Rattle.answers.proofs.Order.{state-ordered, wait-ordered, port-ordered, tol
 use Rattle.contracts.specs.Timed.{Lent, lentBy, Outcome, lentWorld, judgeWaitOf, judgePortOf, start}
 use Rattle.contracts.specs.Plain.{Told, told, stillPage, stillPicture}
 use Rattle.contracts.specs.Helpers.{helperCall}
-use Rattle.contracts.specs.Calls.{TimedCall, plain, mreq, noMreq, portIn, portOut, Helper, lineAddr, lineOf, columnOf, attrRowOf, attrColumnOf, colorOf, Question, byteRead, pagingRead, interruptAsked, framesAsked, pageAsked, blockAsked, shownAsked, stillAsked, help, Call, startAgain, takeTime, writeByte, writePaging, resetPassed, loadRam, ask, Result, result, withRam, withState, waited, opsOf, helpedBy, replied, performed, timedCauses, questionCauses, causesOf, refusedFilled, Typed, lentOf, handedBack, Sized, Made, buffersAfter, Obeyed, AllTyped, NotStarted, NoSecondStart}
+use Rattle.contracts.specs.Calls.{TimedCall, plain, mreq, noMreq, portIn, portOut, Helper, lineAddr, lineOf, columnOf, attrRowOf, attrColumnOf, colourBits, Question, byteRead, pagingRead, interruptAsked, framesAsked, pageAsked, blockAsked, shownAsked, stillAsked, help, Call, startAgain, takeTime, writeByte, writePaging, resetPassed, loadRam, ask, Result, result, withRam, withState, waited, opsOf, helpedBy, replied, performed, timedCauses, questionCauses, causesOf, refusedFilled, Typed, lentOf, handedBack, Sized, Made, buffersAfter, Obeyed, AllTyped, NotStarted, NoSecondStart}
 use Rattle.contracts.proofs.Calls.{call-numbered, call-refused}
 use Rattle.contracts.proofs.Acts.{sized-kept, start-left, start-sized, acted}
 use Rattle.contracts.proofs.AsWhole.{as-whole, as-refused}
@@ -143,7 +143,7 @@ module _ (rom : List ℕ) (c : ZXController) (l : Lent) (s : SameLent rom c l) w
   helped-same columnOf n answer e = col-rel-same n answer e
   helped-same attrRowOf n answer e = attr-row-same n answer e
   helped-same attrColumnOf n answer e = attr-col-same n answer e
-  helped-same colorOf n answer e = from-bits-same n answer e
+  helped-same colourBits n answer e = from-bits-same n answer e
 
   -- ONE QUESTION, answered.
   reply-same : (q : Question) (out : List ℕ) → OwnRomAsked rom q → NoneHolds (questionCauses q l out) → Reply q (replied q l out)

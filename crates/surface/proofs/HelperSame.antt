@@ -14,20 +14,20 @@ use Rattle.record.proofs.Soundness.{sound-facts}
 use Rattle.record.proofs.Round.{held-sound}
 use Rattle.screen.specs.declared.Helped.{Helped}
 use Rattle.screen.specs.declared.Helped.the-variants as helped
-use Rattle.screen.specs.declared.Colored.{Colored}
-use Rattle.screen.specs.declared.Colored.the-variants as colored
+use Rattle.screen.specs.declared.Coloured.{Coloured}
+use Rattle.screen.specs.declared.Coloured.the-variants as coloured
 use Rattle.screen.specs.Address.{lineAddress, lineAt, columnAt, attributeRow, attributeColumn}
-use Rattle.screen.specs.Color as color
+use Rattle.screen.specs.Colour as color
 use Rattle.bus.proofs.Kept.{SoundWorld}
 use Rattle.contracts.specs.Timed.{Lent, lentWorld}
 use Rattle.contracts.specs.Helpers as ulb
-use Rattle.contracts.specs.Helpers.{helperCall, colorHelped}
+use Rattle.contracts.specs.Helpers.{helperCall, colourHelped}
 use Rattle.rustzx.specs.Panics.{done, andThen}
 use Rattle.rustzx.specs.Addresses as rust
 use Rattle.rustzx.specs.Colors.{fromBits, colorByte}
 use Rattle.rustzx.specs.Controller.{ZXController}
 use Rattle.rustzx.specs.Related.{Related}
-use Rattle.rustzx.proofs.Helpers.{asRun, line-address-is, line-rel-is, col-rel-is, attr-row-is, attr-col-is, coloredRun, from-bits-is, color-number}
+use Rattle.rustzx.proofs.Helpers.{asRun, line-address-is, line-rel-is, col-rel-is, attr-row-is, attr-col-is, colouredRun, from-bits-is, color-number}
 use Rattle.rustzx.proofs.EveryState.{rustOf, every-machine, every-state}
 use Rattle.surface.specs.Same.{SameLent, SameHelp}
 
@@ -52,13 +52,13 @@ module _ (n : ℕ) (answer : List ℕ) (long : length answer ≡ 5) where
   pub attr-col-same : SameHelp (rust.attrColRel n) (ulb.attrColRel n answer)
   attr-col-same = rw (attr-col-is n) (helped-same (attributeColumn n) answer long)
 
-  by-colored : (c : Colored) → andThen (coloredRun c) (λ x. done (colorByte x)) ≡ asRun (colorHelped c)
-  by-colored (colored.Color c) = ap done (color-number c)
-  by-colored colored.OutOfRange = refl
+  by-coloured : (c : Coloured) → andThen (colouredRun c) (λ x. done (colorByte x)) ≡ asRun (colourHelped c)
+  by-coloured (coloured.Colour c) = ap done (color-number c)
+  by-coloured coloured.OutOfRange = refl
 
   -- from_bits, its colour by its number
   pub from-bits-same : SameHelp (andThen (fromBits n) (λ x. done (colorByte x))) (ulb.colorFromBits n answer)
-  from-bits-same = rw (from-bits-is n, by-colored (color.fromBits n)) (helped-same (colorHelped (color.fromBits n)) answer long)
+  from-bits-same = rw (from-bits-is n, by-coloured (color.fromBits n)) (helped-same (colourHelped (color.fromBits n)) answer long)
 
 -- EVERY ACCEPTED CALL HAS A STATE OF THE RUST TO BE COMPARED WITH: the slices of any sound record, with RAM and ROM of the machine's lengths.
 pub some-lent : (bus : Bus) (l : Lent) (rom : List ℕ) → heldBy (l .state) ≡ held.Sound bus → length (l .ram) ≡ specsOf (bus .machine) .ram

@@ -16,7 +16,7 @@ use Rattle.memory.specs.declared.Place.the-variants.{Rom, Ram}
 use Rattle.memory.specs.declared.Paged.{Paged}
 use Rattle.memory.specs.declared.Paged.the-variants as paging
 use Rattle.memory.specs.Paging.{write7ffd, pagedCode, pagingAfter}
-use Rattle.memory.specs.Memory.{placeOf, pokedIn, poked, byteAt, loaded}
+use Rattle.memory.specs.Memory.{placeOf, pokedIn, poked, peeked, loaded}
 use Rattle.bus.specs.World.{World, worldOf}
 use Rattle.bus.specs.Time.{inCore, inScreen, inEdge, worldAfter}
 use Rattle.bus.specs.Turns.{fresh}
@@ -57,7 +57,7 @@ module _ (bus : Bus) (ram a b border rom : List ℕ) (c : ZXController) (its : o
       → SameTold (rust.readInternal addr) c (ulb.readInternal state rom ram addr answer)
   unfolding ulb.readInternal answerOf
   read-internal-same state addr answer e =
-      same-told (rust.readInternal addr) (λ x. byteAt (x .machine) (x .paging) rom ram addr) answer (judgeRead state (length rom) (length ram) (length answer)) e
+      same-told (rust.readInternal addr) (λ x. peeked (x .machine) (x .paging) rom ram addr) answer (judgeRead state (length rom) (length ram) (length answer)) e
       (ready-read state bus (length rom) (length ram) (length answer) e .onRecord .sound) tt refl
 
   -- ULB_READ_7FFD, ULB_INT_ACTIVE and ULB_FRAMES_COUNT are read_7ffd, int_active and frames_count.

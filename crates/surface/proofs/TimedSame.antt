@@ -12,7 +12,7 @@ use Rattle.laws.proofs.Conjunction.{each}
 use Rattle.machine.specs.declared.ZXMachine.{ZXMachine}
 use Rattle.machine.specs.Timing.{interrupt}
 use Rattle.record.specs.declared.Bus.{Bus}
-use Rattle.ports.specs.Devices.{devicesOf, flagsOf, byteAt}
+use Rattle.ports.specs.Devices.{devicesOf, flagsOf, deviceByte}
 use Rattle.bus.specs.World.{Core, World}
 use Rattle.bus.specs.Turns.{Turn, Part, fresh, ranBy}
 use Rattle.bus.specs.Calls.{plainWait, addressWait, portRead, readValue, portWrite, writeCode}
@@ -23,7 +23,7 @@ use Rattle.answers.specs.declared.Verdict.{Verdict}
 use Rattle.answers.specs.declared.Verdict.the-variants.{Accepted}
 use Rattle.answers.proofs.Accepted.{ready-wait, ready-port}
 use Rattle.contracts.specs.Timed as ulb
-use Rattle.contracts.specs.Timed.{Lent, lentBy, lentWorld, timed, noValue, judgeWaitOf, judgePortOf}
+use Rattle.contracts.specs.Timed.{Lent, lentBy, lentWorld, timedCall, noValue, judgeWaitOf, judgePortOf}
 use Rattle.rustzx.specs.Controller.{ZXController}
 use Rattle.rustzx.specs.Related.{ourMachine, Related}
 use Rattle.rustzx.specs.Calls.{Call, waitInternal, waitMreq, waitNoMreq, readIo, writeIo, Given, partOf, answerOf}
@@ -43,8 +43,8 @@ module _ (l : Lent) (bus : Bus) (rom : List ℕ) (c : ZXController) (its : ourMa
   same-timed : (k : Call) (Valued : Given → ℕ → Type 0) (part : ZXMachine → Part) (value : ZXMachine → Core → ℕ) (answer : List ℕ) (v : Verdict) → v ≡ Accepted bus
       → Timed m (part m) → partOf m k ≡ part m → SoundWorld m w → rust.Accepted m k w
       → ((g : Given) → g .answer ≡ answerOf m rom k w → Valued g (value m (w .core)))
-      → SameTimed rom k Valued c (timed part value l answer v)
-  unfolding timed
+      → SameTimed rom k Valued c (timedCall part value l answer v)
+  unfolding timedCall
   same-timed k Valued part value answer v e t same sound a f =
       let turn : Turn = ranBy (part m) (fresh m w) in
       let g = agrees m rom c w its r k sound a in
@@ -96,8 +96,8 @@ module _ (l : Lent) (bus : Bus) (rom : List ℕ) (c : ZXController) (its : ourMa
   tape-small : (devices : List ℕ) → flagsOf devices ≡ true → devicesOf devices .tape < 2
   unfolding devicesOf
   tape-small devices e =
-      ltb-true (byteAt devices 24) 2
-      (each (ltb (byteAt devices 24) 2) (ltb (byteAt devices 25) 2 ∷ ltb (byteAt devices 27) 2 ∷ ltb (byteAt devices 29) 2 ∷ ltb (byteAt devices 31) 2 ∷ []) e 0)
+      ltb-true (deviceByte devices 24) 2
+      (each (ltb (deviceByte devices 24) 2) (ltb (deviceByte devices 25) 2 ∷ ltb (deviceByte devices 27) 2 ∷ ltb (deviceByte devices 29) 2 ∷ ltb (deviceByte devices 31) 2 ∷ []) e 0)
 
   -- ULB_READ_IO is read_io, its value among the answer's bytes.
   pub read-same : (devices : List ℕ) (port : ℕ) (answer : List ℕ) → judgePortOf l devices answer ≡ Accepted bus

@@ -23,7 +23,7 @@ use Rattle.answers.specs.declared.Verdict.the-variants.{Refused, Accepted}
 use Rattle.answers.specs.Refusals.{refusalNumber}
 use Rattle.answers.specs.Answers.{timedAnswer, refusedAnswer}
 use Rattle.answers.specs.Ready.{Fit, ReadyWait, ReadyPort}
-use Rattle.contracts.specs.Timed.{Lent, lent, lentWorld, outcome, timedEnd, timed}
+use Rattle.contracts.specs.Timed.{Lent, lent, lentWorld, outcome, timedEnd, timedCall}
 
 -- clocks since the start have room for one call more, if passed frames are below their last number
 time-fits : (m : ZXMachine) (passed clock clocks : ℕ) → HasRoom passed → clock < specsOf m .frame → clocks ≤ 65541
@@ -67,8 +67,8 @@ module _ (bus : Bus) (begun : Turning) (ram a b border : List ℕ) (starts : tur
 
 module _ (v j : Verdict) (judged : v ≡ j) (part : ZXMachine → Part) (value : ZXMachine → Core → ℕ) (l : Lent) (answer : List ℕ) where
   pub timed-refused : (e : Refusal) (r : ℕ) (left : List ℕ) → v ≡ Refused e
-      → (r ≡ refusalNumber e) × (left ≡ refusedAnswer 10 (refusalNumber e) answer) → outcome r l left ≡ timed part value l answer j
-  unfolding timed
+      → (r ≡ refusalNumber e) × (left ≡ refusedAnswer 10 (refusalNumber e) answer) → outcome r l left ≡ timedCall part value l answer j
+  unfolding timedCall
   timed-refused e r left p q = rw (← judged, p, q .0, q .1)
 
   pub timed-accepted : (bus : Bus) (begun turn : Turning) (r n : ℕ) (state a b border left : List ℕ)
@@ -77,8 +77,8 @@ module _ (v j : Verdict) (judged : v ≡ j) (part : ZXMachine → Part) (value :
       → turnOf turn (l .ram) a b border ≡ ranBy (part (begun .bus .machine)) (turnOf begun (l .ram) (l .a) (l .b) (l .border))
       → n ≡ value (begun .bus .machine) (coreOf (begun .bus) (l .ram))
       → (r ≡ 0) × (state ≡ recordBytes (turn .bus)) × (left ≡ timedAnswer n (turn .closed) (interrupt (turn .bus .clock)) (turn .clocks) (turn .blocks))
-      → outcome r (lent state (l .ram) a b border) left ≡ timed part value l answer j
-  unfolding timed
+      → outcome r (lent state (l .ram) a b border) left ≡ timedCall part value l answer j
+  unfolding timedCall
   timed-accepted bus begun turn r n state a b border left p starts runs gives q =
       let m : begun .bus .machine ≡ bus .machine = ap (λ (t : Turn). t .machine) starts in
       let ended : turnOf turn (l .ram) a b border ≡ ranBy (part (bus .machine)) (fresh (bus .machine) (lentWorld bus l))

@@ -3,9 +3,9 @@
 // Where its definitions stand: crate contracts, specs/Helpers.antt.
 ghost use mathlib.Core.Path.{_≡_};
 ghost use Rattle.contracts.specs.Plain.{told};
-ghost use Rattle.contracts.specs.Helpers.{colorHelped, helperCall, bitmapLineAddr, bitmapLineRel, bitmapColRel, attrRowRel, attrColRel, colorFromBits};
+ghost use Rattle.contracts.specs.Helpers.{colourHelped, helperCall, bitmapLineAddr, bitmapLineRel, bitmapColRel, attrRowRel, attrColRel, colorFromBits};
 use answers::Refusal;
-use screen::Colored;
+use screen::Coloured;
 use screen::Helped;
 use screen::ZXColor;
 
@@ -66,12 +66,12 @@ pub extern "C" fn ulb_attr_col_rel(addr: u32, answer: &mut [u8]) -> u8
 }
 
 // A colour is given by its number.
-fn color_helped(c: Colored) -> Helped
-    ensures { λ r. ⌜ r ≡ colorHelped c ⌝ }
+fn colour_helped(c: Coloured) -> Helped
+    ensures { λ r. ⌜ r ≡ colourHelped c ⌝ }
 {
     match c {
-        Colored::Color(color) => Helped::Number(color.bits() as u32),
-        Colored::OutOfRange => Helped::OutOfRange,
+        Coloured::Colour(colour) => Helped::Number(colour.bits() as u32),
+        Coloured::OutOfRange => Helped::OutOfRange,
     }
 }
 
@@ -79,6 +79,6 @@ fn color_helped(c: Colored) -> Helped
 pub extern "C" fn ulb_color_from_bits(bits: u32, answer: &mut [u8]) -> u8
     ensures { λ r. ⌜ told r (now (answer .exit)) ≡ colorFromBits bits (now (answer .entry)) ⌝ }
 {
-    let helped = color_helped(ZXColor::from_bits(bits));
+    let helped = colour_helped(ZXColor::from_bits(bits));
     help(helped, answer)
 }

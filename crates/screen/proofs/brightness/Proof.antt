@@ -4,7 +4,7 @@ use mathlib.Core.Path.{_≡_, sym, _∙_}
 use mathlib.Core.Bool.{true, false, not}
 use lib.Bits.{bitAnd}
 use borrow.Author.Tests.{eq-eqb, ne-eqb, not-true, not-false}
-use Rattle.screen.specs.Color.{bit}
+use Rattle.screen.specs.Colour.{bit}
 use Rattle.screen.proofs.OneBit.{mask-bit}
 use Rattle.screen.proofs.brightness.Statement.{statement}
 use Rattle.screen.proofs.brightness.Tie as tie

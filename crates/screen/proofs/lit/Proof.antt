@@ -5,7 +5,7 @@ use mathlib.Core.Bool.{true, false, and-false}
 use Prim.Native.Nat.{ℕ, _/_, _%_, _≤_, _<_}
 use native.Mathlib.Omega.{arith}
 use borrow.Author.Tests.{eq-eqb, ne-eqb}
-use Rattle.screen.specs.Color.{bit}
+use Rattle.screen.specs.Colour.{bit}
 use Rattle.screen.proofs.lit.Statement.{statement}
 use Rattle.screen.proofs.lit.Tie as tie
 

@@ -16,7 +16,7 @@ enum-told-2 : tie.Need-enum-told-2
 enum-told-2 c = search needs
 
 add-result : tie.Need-add-result
-add-result c = omega (arith, number-small (c .before .before .before .args .color))
+add-result c = omega (arith, number-small (c .before .before .before .args .colour))
 
 returns : tie.Need-returns
 returns c = search needs

@@ -3,7 +3,7 @@
 use mathlib.Core.Path.{ap, _∙_}
 use denote.Ref.{now}
 use Rattle.screen.specs.declared.Helped.{Helped}
-use Rattle.contracts.specs.Helpers.{colorHelped, helperCall}
+use Rattle.contracts.specs.Helpers.{colourHelped, helperCall}
 use borrow.Author.Needs.{needs}
 use Rattle.ulb_helpers.proofs.ulb_color_from_bits.Statement.{statement}
 use Rattle.ulb_helpers.proofs.ulb_color_from_bits.Tie as tie
@@ -11,8 +11,8 @@ use Rattle.ulb_helpers.proofs.ulb_color_from_bits.Tie as tie
 from-bits-requires : tie.Need-from-bits-requires
 from-bits-requires c κs = search needs
 
-color-helped-requires : tie.Need-color-helped-requires
-color-helped-requires c κs = search needs
+colour-helped-requires : tie.Need-colour-helped-requires
+colour-helped-requires c κs = search needs
 
 help-requires : tie.Need-help-requires
 help-requires c κs = search needs
@@ -23,8 +23,8 @@ same-length c = search needs
 returns : tie.Need-returns
 returns c =
     c .before .before .help .ensures
-    ∙ ap (λ (h : Helped). helperCall h (now (c .before .before .before .before .before .before .before .args .answer))) (c .before .before .before .before .color-helped .ensures ∙ ap colorHelped (c .before .before .before .before .before .from-bits .ensures))
+    ∙ ap (λ (h : Helped). helperCall h (now (c .before .before .before .before .before .before .before .args .answer))) (c .before .before .before .before .colour-helped .ensures ∙ ap colourHelped (c .before .before .before .before .before .from-bits .ensures))
 
 pub ulb-color-from-bits-spec : {M : Type 1} → statement M
 ulb-color-from-bits-spec =
-    tie.close (tie.spec from-bits-requires color-helped-requires help-requires same-length returns)
+    tie.close (tie.spec from-bits-requires colour-helped-requires help-requires same-length returns)

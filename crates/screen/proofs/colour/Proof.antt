@@ -7,16 +7,16 @@ use lib.ListN.{List·getD-eq-default}
 use borrow.Author.Needs.{needs}
 use Rattle.laws.proofs.Cases.{split}
 use Rattle.screen.specs.declared.ZXColor.the-variants.{White}
-use Rattle.screen.specs.Color.{colors, colorOf}
-use Rattle.screen.proofs.color.Statement.{statement}
-use Rattle.screen.proofs.color.Tie as tie
+use Rattle.screen.specs.Colour.{colours, colourOf}
+use Rattle.screen.proofs.colour.Statement.{statement}
+use Rattle.screen.proofs.colour.Tie as tie
 
 up : (k n : ℕ) → k ≤ n → (n ≡ k → ⊥) → suc k ≤ n
 up k n h d = split (suc k) n (λ l. l) (λ l. absurd (d (omega arith)))
 
-last : (n : ℕ) → 7 ≤ n → White ≡ colorOf n
+last : (n : ℕ) → 7 ≤ n → White ≡ colourOf n
 last n h =
-    split 8 n (λ k. sym (List·getD-eq-default colors White k))
+    split 8 n (λ k. sym (List·getD-eq-default colours White k))
     (λ k. let e : n ≡ 7 = omega arith in rw e)
 
 returns : tie.Need-returns
@@ -46,7 +46,7 @@ returns-8 c =
     let r = c .match .rest in
     last n (up 6 n (up 5 n (up 4 n (up 3 n (up 2 n (up 1 n (up 0 n (omega arith) (r .0 .0 .0 .0 .0 .0 .1)) (r .0 .0 .0 .0 .0 .1)) (r .0 .0 .0 .0 .1)) (r .0 .0 .0 .1)) (r .0 .0 .1)) (r .0 .1)) (r .1))
 
-pub color-spec : {M : Type 1} → statement M
-color-spec =
+pub colour-spec : {M : Type 1} → statement M
+colour-spec =
     tie.close
     (tie.spec returns returns-2 returns-3 returns-4 returns-5 returns-6 returns-7 returns-8)

@@ -7,34 +7,34 @@ use lib.Dec.{leb, eqb}
 use lib.ListN.{getD}
 use Rattle.screen.specs.declared.ZXColor.{ZXColor}
 use Rattle.screen.specs.declared.ZXColor.the-variants.{Black, Blue, Red, Purple, Green, Cyan, Yellow, White}
-use Rattle.screen.specs.declared.Colored.{Colored}
-use Rattle.screen.specs.declared.Colored.the-variants.{Color, OutOfRange}
+use Rattle.screen.specs.declared.Coloured.{Coloured}
+use Rattle.screen.specs.declared.Coloured.the-variants.{Colour, OutOfRange}
 use Rattle.screen.specs.declared.ZXBrightness.{ZXBrightness}
 use Rattle.screen.specs.declared.ZXBrightness.the-variants.{Normal, Bright}
 use Rattle.screen.specs.declared.ZXAttribute.{ZXAttribute}
 
 -- the colours in the order of their numbers, 0 to 7
-abbrev pub colors : List ZXColor
-colors = Black ∷ Blue ∷ Red ∷ Purple ∷ Green ∷ Cyan ∷ Yellow ∷ White ∷ []
+abbrev pub colours : List ZXColor
+colours = Black ∷ Blue ∷ Red ∷ Purple ∷ Green ∷ Cyan ∷ Yellow ∷ White ∷ []
 
 -- the colour of a number below 8
-abbrev pub colorOf : ℕ → ZXColor
-colorOf n = getD colors n White
+abbrev pub colourOf : ℕ → ZXColor
+colourOf n = getD colours n White
 
 -- a colour's number
-abbrev pub colorNumber : ZXColor → ℕ
-colorNumber Black = 0
-colorNumber Blue = 1
-colorNumber Red = 2
-colorNumber Purple = 3
-colorNumber Green = 4
-colorNumber Cyan = 5
-colorNumber Yellow = 6
-colorNumber White = 7
+abbrev pub colourNumber : ZXColor → ℕ
+colourNumber Black = 0
+colourNumber Blue = 1
+colourNumber Red = 2
+colourNumber Purple = 3
+colourNumber Green = 4
+colourNumber Cyan = 5
+colourNumber Yellow = 6
+colourNumber White = 7
 
 -- "`ZXColor::from_bits`"; a number above "colour 7" is out of range (refusal 8)
-abbrev pub fromBits : ℕ → Colored
-fromBits n = cond (leb n 7) (Color (colorOf n)) OutOfRange
+abbrev pub fromBits : ℕ → Coloured
+fromBits n = cond (leb n 7) (Colour (colourOf n)) OutOfRange
 
 -- bit k of a number is 1
 abbrev pub bit : ℕ → ℕ → Bool
@@ -46,7 +46,7 @@ brightnessOf byte = cond (bit 6 byte) Bright Normal
 
 abbrev pub attributeOf : ℕ → ZXAttribute
 attributeOf byte =
-    record { ink = colorOf (byte % 8); paper = colorOf (byte / 8 % 8); brightness = brightnessOf byte; flash = bit 7 byte }
+    record { ink = colourOf (byte % 8); paper = colourOf (byte / 8 % 8); brightness = brightnessOf byte; flash = bit 7 byte }
 
 -- "a pixel is ink when its bit differs from (attribute flash and flash on), else paper" (01, Start, time and paint)
 abbrev pub activeColor : ZXAttribute → Bool → Bool → ZXColor
