@@ -18,7 +18,7 @@ use Rattle.bus.specs.Turns.{clocksOf, blocksOf, closedBy}
 use Rattle.bus.proofs.OneStep.{closes-at, edge-closed}
 use Rattle.bus.proofs.Runs.{clocksIn, blocksIn}
 use Rattle.history.specs.Log.{Log, Frame, Still, noted, follow, looked, stillOf, filmed, film, blank, drawn, Shows, AllShow, Chained}
-use Rattle.history.proofs.Time.{Small, Timed, timed, count, log-closed, log-goes}
+use Rattle.history.proofs.Time.{Small, Clocked, clocked, count, log-closed, log-goes}
 use Rattle.history.proofs.Pictures.{Painted, painted-kept}
 use Rattle.history.proofs.Borders.{Bordered, bordered}
 
@@ -29,7 +29,7 @@ closings m (o ∷ os) c = count (closedBy m o c) + closings m os (inCore m o c)
 
 -- T clocks, B blocks and F closings so far
 pub record Inv (m : ZXMachine) (T B F : ℕ) (w : World) (l : Log) (ss : List Still) : Type 0 where
-  pub time : Timed m T F (w .core) l
+  pub time : Clocked m T F (w .core) l
   pub pictures : Painted m B (w .core) (w .screen) l
   pub border : Bordered m (w .core) (w .edge) l
   pub frames : AllShow ss (l .done)
@@ -109,7 +109,7 @@ module _ (m : ZXMachine) where
       → Inv m (T + clocksOf o) (B + blocksOf m o w) (F + count (closedBy m o (w .core))) (does m o w) (noted m o (w .core) l) (filmed m o w ss)
   op-kept o T B F w l ss small i =
       record {
-        time = timed m o T F (w .core) l small (i .time);
+        time = clocked m o T F (w .core) l small (i .time);
         pictures = painted-kept m o B w l (i .pictures);
         border = bordered m o (w .core) (w .edge) l (i .border);
         frames = frames-kept o T B F w l ss i;

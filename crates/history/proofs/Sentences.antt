@@ -21,7 +21,7 @@ use Rattle.record.proofs.Round.{held-encode}
 use Rattle.paint.proofs.Painting.{paint-out}
 use Rattle.memory.specs.Memory.{ramPage}
 use Rattle.bus.specs.World.{World, busOf, started}
-use Rattle.bus.specs.Time.{Hold, lasts, Op, step, tick, colour, silent, Look, lookAt, paintFrom, showsA, shownPicture, hiddenPicture, caughtUp, closes, inCore, inScreen, inEdge, does, worldAfter}
+use Rattle.bus.specs.Time.{Stall, lasts, Op, step, tick, colour, silent, Look, lookAt, paintFrom, showsA, shownPicture, hiddenPicture, caughtUp, closes, inCore, inScreen, inEdge, does, worldAfter}
 use Rattle.bus.specs.Turns.{closedBy}
 use Rattle.bus.proofs.OneStep.{core-goes, screen-closed, screen-goes, closes-at}
 use Rattle.bus.proofs.Closing.{completed, closing-shows}
@@ -221,7 +221,7 @@ module _ (m : ZXMachine) where
         ∙ paint-out (ramPage (l .page) (l .ram)) (l .flash) from (l .at - from) (hiddenPicture (w .core) (w .screen)) i out′)
 
   -- Every other operation leaves both pictures as they were.
-  pub pictures-alone : (o : Op) (w : World) → ((h : Hold) (n : ℕ) → o ≡ step h n → ⊥) → does m o w .screen ≡ w .screen
+  pub pictures-alone : (o : Op) (w : World) → ((h : Stall) (n : ℕ) → o ≡ step h n → ⊥) → does m o w .screen ≡ w .screen
   unfolding inScreen
   pictures-alone (step k n) w h = absurd (h k n refl)
   pictures-alone (colour k) w h = refl
@@ -260,11 +260,11 @@ module _ (m : ZXMachine) where
   -- call does after it stands on the right-hand side.
   pub record Wall (os : List Op) (w : World) : Type 0 where
     pub before : List Op
-    pub hold : Hold
+    pub stall : Stall
     pub n : ℕ
     pub rest : List Op
-    pub parts : os ≡ before ++ step hold n ∷ rest
-    pub closes-here : specsOf m .frame ≤ worldAfter m before w .core .clock + lasts hold n
+    pub parts : os ≡ before ++ step stall n ∷ rest
+    pub closes-here : specsOf m .frame ≤ worldAfter m before w .core .clock + lasts stall n
     pub finished : shownPicture (worldAfter m os w .core) (worldAfter m os w .screen)
         ≡ completed m (worldAfter m before w .core) (worldAfter m before w .screen .painted)
         (hiddenPicture (worldAfter m before w .core) (worldAfter m before w .screen))
@@ -275,7 +275,7 @@ module _ (m : ZXMachine) where
       let h = closes-at m (lasts k n) (w .core) e in
       record {
         before = [];
-        hold = k;
+        stall = k;
         n = n;
         rest = os;
         parts = refl;
@@ -290,7 +290,7 @@ module _ (m : ZXMachine) where
   wall-later o os w r =
       record {
         before = o ∷ r .before;
-        hold = r .hold;
+        stall = r .stall;
         n = r .n;
         rest = r .rest;
         parts = ap (λ (xs : List Op). o ∷ xs) (r .parts);

@@ -32,10 +32,10 @@ use Rattle.ports.specs.Devices.{devicesOf}
 use Rattle.bus.specs.World.{Core, World, busOf}
 use Rattle.bus.specs.Time.{Silent, paged, unpass, Op, silent, inCore, inScreen, inEdge, worldAfter}
 use Rattle.bus.specs.Turns.{clocksOf, blocksOf, closedBy, Turn, Part, ran, fresh}
-use Rattle.bus.specs.Calls.{plainWait, addressWait, portRead, readValue, portWrite, writeCode, repaged, pagingWrite}
+use Rattle.bus.specs.Calls.{plainWait, addressWait, portRead, readValue, portWrite, writeCode, pagingOps, pagingWrite}
 use Rattle.bus.proofs.Runs.{clocksIn, blocksIn, closedIn, ran-is, ran-world, fresh-blocks}
 use Rattle.bus.proofs.PortClocks.{read-small, write-small}
-use Rattle.bus.proofs.TimedCalls.{Timed, plain-timed, address-timed, read-timed, write-timed}
+use Rattle.bus.proofs.TimedCalls.{TimedPart, plain-timed, address-timed, read-timed, write-timed}
 use Rattle.bus.proofs.Lengths.{SameLengths, lengths-kept, call-lengths}
 use Rattle.bus.proofs.Kept.{SoundWorld, InRange, op-kept, call-kept}
 use Rattle.bus.proofs.Reports.{call-fits}
@@ -156,7 +156,7 @@ module _ (m : ZXMachine) (w : World) (sound : SoundWorld m w) (sized : Sized m w
   none-tied r s c b f = record { slices = s; clocks = c; blocks = b; closed = f; sound = sound; sized = sized; small = tt }
 
   -- ---- timed calls
-  timed-kept : (f : Part) → Timed m f → w .core .passed < 4294967295 → Kept m (f (w .core)) w
+  timed-kept : (f : Part) → TimedPart m f → w .core .passed < 4294967295 → Kept m (f (w .core)) w
   timed-kept f t room =
       let same = ran-world (f (w .core)) (fresh m w) in
       record {
@@ -194,7 +194,7 @@ module _ (m : ZXMachine) (w : World) (sound : SoundWorld m w) (sized : Sized m w
 
     -- an accepted timed call, lent its five slices whole
     timed-tied : (f : ZXMachine → Part) (value : ZXMachine → Core → ℕ) (answer : List ℕ) (v : Verdict) → v ≡ Accepted (busOf m w) → LentWhole n l
-        → Timed m (f m) → w .core .passed < 4294967295 → Tied m (back n l (ofOutcome (timed f value (lentOf n l) answer v))) (f m (w .core)) w
+        → TimedPart m (f m) → w .core .passed < 4294967295 → Tied m (back n l (ofOutcome (timed f value (lentOf n l) answer v))) (f m (w .core)) w
     unfolding timed
     timed-tied f value answer v e whole t room =
         let os = f m (w .core) in
@@ -399,13 +399,13 @@ module _ (m : ZXMachine) (w : World) (sound : SoundWorld m w) (sized : Sized m w
         ∙ reset-world)
 
     -- a 7FFD write
-    paged-world : (p : Paged) → withState l (recordBytes (withPaging (pagingAfter p (w .core .paging)) (busOf m w))) ≡ lentBy m (worldAfter m (repaged p) w)
+    paged-world : (p : Paged) → withState l (recordBytes (withPaging (pagingAfter p (w .core .paging)) (busOf m w))) ≡ lentBy m (worldAfter m (pagingOps p) w)
     unfolding worldAfter inCore inScreen inEdge
     paged-world paging.Absent = refl
     paged-world paging.Locked = refl
     paged-world (paging.Taken v) = refl
 
-    quiet-repaged : (v : ℕ) → v < 256 → (p : Paged) → Takes m v p → Quiet (repaged p)
+    quiet-repaged : (v : ℕ) → v < 256 → (p : Paged) → Takes m v p → Quiet (pagingOps p)
     quiet-repaged v h paging.Absent f = quiet-none
     quiet-repaged v h paging.Locked f = quiet-none
     quiet-repaged v h (paging.Taken u) f = let g = f u refl in quiet-silent (paged u) (omega (arith, g .0), g .1)
@@ -417,7 +417,7 @@ module _ (m : ZXMachine) (w : World) (sound : SoundWorld m w) (sized : Sized m w
         let a = accepting m w sound (n .state) (λ bus. toldCauses answer (sizesOf (lentOf n l)) (bus .machine) (bus .passed)) e in
         let slice = lend (n .state) (recordBytes (busOf m w)) in
         let p = write7ffd m (w .core .paging) v in
-        still-tied (writePaging v answer) (repaged p) refl (quiet-repaged v h p (takes m (w .core .paging) v))
+        still-tied (writePaging v answer) (pagingOps p) refl (quiet-repaged v h p (takes m (w .core .paging) v))
         (ap (λ (x : Verdict). handedBack n l (withState (lentOf n l) (repage v slice answer x .state))) (a .verdict)
         ∙ state-changed n l (recordBytes (withPaging (pagingAfter p (w .core .paging)) (busOf m w))) (a .whole) refl
         ∙ paged-world p)

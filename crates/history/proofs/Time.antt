@@ -35,25 +35,25 @@ abbrev pub count : Bool → ℕ
 count t = cond t 1 0
 
 -- T clocks and F closings so far
-pub record Timed (m : ZXMachine) (T F : ℕ) (c : Core) (l : Log) : Type 0 where
+pub record Clocked (m : ZXMachine) (T F : ℕ) (c : Core) (l : Log) : Type 0 where
   pub frames : F ≡ length (l .done)
   pub inside : c .clock < specsOf m .frame
   pub sum : T ≡ length (l .done) * specsOf m .frame + c .clock
 
 module _ (m : ZXMachine) where
-  timed-tick : (n T F : ℕ) (c : Core) (l : Log) → n ≤ 65541 → (b : Bool) → closes m n c ≡ b → Timed m T F c l
-      → Timed m (T + n) (F + count (closes m n c)) (inCore m (tick n) c) (noted m (tick n) c l)
-  timed-tick n T F c l small true e t =
+  clocked-tick : (n T F : ℕ) (c : Core) (l : Log) → n ≤ 65541 → (b : Bool) → closes m n c ≡ b → Clocked m T F c l
+      → Clocked m (T + n) (F + count (closes m n c)) (inCore m (tick n) c) (noted m (tick n) c l)
+  clocked-tick n T F c l small true e t =
       let k = closes-at m n c e in
       let g = frame-long m in
       rw (core-closed m n c e, log-closed m n c l e, e) (record { frames = omega arith; inside = omega arith; sum = omega arith })
-  timed-tick n T F c l small false e t =
+  clocked-tick n T F c l small false e t =
       let k = goes-on-at m n c e in
       rw (core-goes m n c e, log-goes m n c l e, e) (record { frames = omega arith; inside = omega arith; sum = omega arith })
 
-  pub timed : (o : Op) (T F : ℕ) (c : Core) (l : Log) → Small o → Timed m T F c l
-      → Timed m (T + clocksOf o) (F + count (closedBy m o c)) (inCore m o c) (noted m o c l)
+  pub clocked : (o : Op) (T F : ℕ) (c : Core) (l : Log) → Small o → Clocked m T F c l
+      → Clocked m (T + clocksOf o) (F + count (closedBy m o c)) (inCore m o c) (noted m o c l)
   unfolding clocksOf closedBy inCore noted
-  timed (step h n) T F c l small t = timed-tick (lasts h n) T F c l small (closes m (lasts h n) c) refl t
-  timed (colour k) T F c l small t = record { frames = omega arith; inside = t .inside; sum = omega arith }
-  timed (silent o) T F c l small t = record { frames = omega arith; inside = t .inside; sum = omega arith }
+  clocked (step h n) T F c l small t = clocked-tick (lasts h n) T F c l small (closes m (lasts h n) c) refl t
+  clocked (colour k) T F c l small t = record { frames = omega arith; inside = t .inside; sum = omega arith }
+  clocked (silent o) T F c l small t = record { frames = omega arith; inside = t .inside; sum = omega arith }

@@ -27,7 +27,7 @@ use Rattle.rustzx.specs.Controller as rust
 use Rattle.rustzx.specs.Controller.{ZXController, new, withRom}
 use Rattle.rustzx.specs.Related.{ourMachine, Related}
 use Rattle.rustzx.specs.Memory.{ramPageData, blockData}
-use Rattle.rustzx.specs.Calls.{Call, Given, told, performed}
+use Rattle.rustzx.specs.Calls.{Call, Given, handsOut, performed}
 use Rattle.surface.specs.Same.{SameLent, SameStart, SameTimed}
 use Rattle.surface.specs.Chain.{Asked, waitInternal, waitMreq, waitNoMreq, readIo, writeIo, readInternal, writeInternal, write7ffd, read7ffd, intActive, framesCount, resetFrames, loadPage, ramPage, block, shown, Typed, returned, withState, withRam, left, SameCall, AllTyped, AllSame}
 use Rattle.surface.proofs.OnMachine.{own}
@@ -93,7 +93,7 @@ module _ (rom : List ℕ) (c : ZXController) (l : Lent) (s : SameLent rom c l) w
   ram-call ram g r =
       record { bus = bus; isHeld = here .isHeld; machine = ap ourMachine (r .machine) ∙ here .machine; related = own (c .machine) rom (g .controller) (lentWorld bus (withRam l ram)) r }
 
-  told-call : (x : Run (List ℕ)) (g : Given) → told c x ≡ done g → SameLent rom (g .controller) l
+  told-call : (x : Run (List ℕ)) (g : Given) → handsOut c x ≡ done g → SameLent rom (g .controller) l
   unfolding holder
   told-call (done bytes) g e = subst (λ (d : ZXController). SameLent rom d l) (ap (holder c) e) here
   told-call panics g e = subst (λ (d : ZXController). SameLent rom d l) (ap (holder c) e) here
