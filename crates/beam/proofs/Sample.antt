@@ -3,7 +3,7 @@
 use Prim.Native.Nat.{ℕ}
 use mathlib.Core.Path.{_≡_, refl}
 use mathlib.Core.List.{List, [], _∷_}
-use Rattle.machine.specs.Timing.{held, delay, blocksIn, blocksFrom, blocksAt, borderIn, borderFrom, borderAt}
+use Rattle.machine.specs.Timing.{delayInLine, delay, blocksCapped, blocksFrom, blocksAt, borderCapped, borderFrom, borderAt}
 use Rattle.beam.specs.Decimal.{digits, decimal, valueFrom, sameText, startsWith}
 use Rattle.beam.specs.Meaning.{clockMeaning, lineMeaning, linesOf}
 use Rattle.beam.specs.Printed.{fields, spaced}
@@ -36,5 +36,5 @@ sampleReport =
     []
 
 pub sample : reportOf sampleInput ≡ sampleReport
-unfolding held delay blocksIn blocksFrom blocksAt borderIn borderFrom borderAt digits decimal valueFrom sameText startsWith clockMeaning lineMeaning linesOf fields spaced linesReport reportOf
+unfolding delayInLine delay blocksCapped blocksFrom blocksAt borderCapped borderFrom borderAt digits decimal valueFrom sameText startsWith clockMeaning lineMeaning linesOf fields spaced linesReport reportOf
 sample = refl

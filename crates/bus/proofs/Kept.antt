@@ -25,7 +25,7 @@ use Rattle.bus.specs.Time.{store, paged, unpass, lasts, Op, step, tick, 
 use Rattle.bus.specs.Turns.{clocksOf, fresh, Part, ranBy}
 use Rattle.bus.proofs.OneStep.{frame-long, closes-at, goes-on-at, core-closed, core-goes, screen-closed, screen-goes, edge-closed, edge-goes, op-moves}
 use Rattle.bus.proofs.Runs.{clocksIn, ran-world}
-use Rattle.bus.proofs.TimedCalls.{InCall, AllInCall, Timed}
+use Rattle.bus.proofs.TimedCalls.{InCall, AllInCall, TimedPart}
 
 -- A world is sound if its state record is: document 01's clauses, one by one, as crate `record` has them.
 abbrev pub SoundWorld : ZXMachine → World → Type 0
@@ -210,7 +210,7 @@ all-in-range m (o ∷ os) i = (in-range m o (i .0), all-in-range m os (i .1))
 
 -- EVERY CALL KEEPS SOUNDNESS: a plain wait, a wait at an address, a port read and a port write (TimedCalls has the four as timed parts), on a
 -- sound world below refusal 6, leaves a sound world.
-pub call-kept : (m : ZXMachine) (f : Part) → Timed m f → (w : World) → SoundWorld m w → HasRoom (w .core .passed)
+pub call-kept : (m : ZXMachine) (f : Part) → TimedPart m f → (w : World) → SoundWorld m w → HasRoom (w .core .passed)
     → SoundWorld m (ranBy f (fresh m w) .world)
 call-kept m f t w s room =
     let b = t .brief (w .core) in

@@ -12,7 +12,7 @@ use Rattle.machine.specs.declared.ZXMachine.the-variants.{Sinclair48K, Sinclair
 use Rattle.machine.specs.Numbers.{specsOf}
 use Rattle.border.specs.Edge.{Edge, finished}
 use Rattle.bus.specs.World.{Core, Screen}
-use Rattle.bus.specs.Time.{Silent, store, paged, unpass, Hold, lasts, Op, step, tick, colour, silent, passedLeft, closes, lookAt, showsA, caughtUp, rewound, wentOn, wrapped, inCore, inScreen, inEdge}
+use Rattle.bus.specs.Time.{Silent, store, paged, unpass, Stall, lasts, Op, step, tick, colour, silent, passedLeft, closes, lookAt, showsA, caughtUp, rewound, wentOn, wrapped, inCore, inScreen, inEdge}
 use Rattle.bus.specs.Turns.{clocksOf, blocksOf, closedBy, Turn, turned}
 
 -- The longest step of a call, a wait of 65,535 clocks and the delay before it, is shorter than either machine's frame.
@@ -61,7 +61,7 @@ module _ (m : ZXMachine) (n : ℕ) (c : Core) where
   edge-goes x e = rw e
 
 -- Nothing but how long a step is has a say in what it leaves and reports: what of it is delay only the totals of delays tell.
-pub whole-step : (h : Hold) (n : ℕ) (t : Turn) → turned (step h n) t ≡ turned (tick (lasts h n)) t
+pub whole-step : (h : Stall) (n : ℕ) (t : Turn) → turned (step h n) t ≡ turned (tick (lasts h n)) t
 unfolding turned inCore inScreen inEdge clocksOf blocksOf closedBy
 whole-step h n t = refl
 

@@ -29,9 +29,9 @@ use Rattle.ports.specs.Hearers.{Hearer, portHearers, hearers}
 use Rattle.ports.specs.Pages.{isSet}
 use Rattle.ports.proofs.Agree.{read-pages}
 use Rattle.bus.specs.World.{Core, World}
-use Rattle.bus.specs.Time.{Hold, free, due, lasts, step, closes, inCore}
+use Rattle.bus.specs.Time.{Stall, free, due, lasts, step, closes, inCore}
 use Rattle.bus.specs.Turns.{clocksOf, coreAfter, fresh, Part, andThen, ranBy}
-use Rattle.bus.specs.Calls.{contended, delayed, addressWait, firstPart, lastPart, finalStep, readBefore, portRead, repaged, actedOn, portWrite}
+use Rattle.bus.specs.Calls.{contended, delayed, addressWait, firstPart, lastPart, finalStep, readBefore, portRead, pagingOps, actedOn, portWrite}
 use Rattle.bus.specs.Pages.{Cycle, C, N, highByteHeld, rowOf, takes, inFrame, endOf, takeAll, pagePort, memoryCycle}
 use Rattle.bus.proofs.OneStep.{frame-long}
 use Rattle.bus.proofs.Runs.{acts-alone, clocksIn, clocks-then, fresh-clocks}
@@ -75,7 +75,7 @@ module _ (m : ZXMachine) where
       (λ k. rw (lt-ltb t (s .frame) k) (same-due t)))
 
   -- a step moves the core's clock as the pages count
-  step-clock : (k : Hold) (n : ℕ) (c : Core) → inCore m (step k n) c .clock ≡ anew (specsOf m .frame) (c .clock + lasts k n)
+  step-clock : (k : Stall) (n : ℕ) (c : Core) → inCore m (step k n) c .clock ≡ anew (specsOf m .frame) (c .clock + lasts k n)
   unfolding inCore anew
   step-clock k n c =
       let x = c .clock + lasts k n in
@@ -84,7 +84,7 @@ module _ (m : ZXMachine) where
       (λ h. rw (lt-leb (specsOf m .frame) x h, lt-ltb x (specsOf m .frame) h))
 
   -- and leaves the paging alone
-  step-paging : (k : Hold) (n : ℕ) (c : Core) → inCore m (step k n) c .paging ≡ c .paging
+  step-paging : (k : Stall) (n : ℕ) (c : Core) → inCore m (step k n) c .paging ≡ c .paging
   unfolding inCore
   step-paging k n c = by-bool (λ (r : Core). r .paging ≡ c .paging) (closes m (lasts k n) c) (λ e. refl) (λ e. refl)
 
@@ -189,7 +189,7 @@ module _ (m : ZXMachine) (port v : ℕ) (h : port < 65536) (c : Core) where
   abbrev Stays : List Hearer → Type 0
   Stays hs = contended m port (coreAfter m (actedOn m hs v c) c) ≡ contended m port c
 
-  repaged-stays : port < 0x8000 → (q : Paged) → contended m port (coreAfter m (repaged q) c) ≡ contended m port c
+  repaged-stays : port < 0x8000 → (q : Paged) → contended m port (coreAfter m (pagingOps q) c) ≡ contended m port c
   unfolding coreAfter inCore
   repaged-stays k paging.Absent = refl
   repaged-stays k paging.Locked = refl

@@ -14,7 +14,7 @@ use Rattle.machine.specs.declared.ZXMachine.{ZXMachine}
 use Rattle.machine.specs.declared.ZXMachine.the-variants.{Sinclair48K}
 use Rattle.machine.specs.declared.ZXSpecs.{ZXSpecs}
 use Rattle.machine.specs.Numbers.{specsOf, Regular}
-use Rattle.machine.specs.Timing.{pattern, held, delay}
+use Rattle.machine.specs.Timing.{pattern, delayInLine, delay}
 use Rattle.machine.specs.Contended.{portContended}
 use Rattle.machine.proofs.Numbered.{regular}
 use Rattle.machine.proofs.Bounds.{delay-small}
@@ -25,9 +25,9 @@ use Rattle.ports.specs.declared.Devices.{Devices}
 use Rattle.ports.specs.Hearers as hearer
 use Rattle.ports.specs.Hearers.{Hearer, hearers}
 use Rattle.bus.specs.World.{Core, World}
-use Rattle.bus.specs.Time.{Hold, free, due, lasts, Op, step, tick, inCore}
+use Rattle.bus.specs.Time.{Stall, free, due, lasts, Op, step, tick, inCore}
 use Rattle.bus.specs.Turns.{clocksOf, turned, ran, coreAfter, fresh, andThen, ranBy}
-use Rattle.bus.specs.Calls.{contended, plainWait, delayed, addressWait, firstPart, lastPart, finalStep, readBefore, portRead, repaged, acts, actedOn, portWrite}
+use Rattle.bus.specs.Calls.{contended, plainWait, delayed, addressWait, firstPart, lastPart, finalStep, readBefore, portRead, pagingOps, acts, actedOn, portWrite}
 use Rattle.bus.proofs.OneStep.{goes-on-if, core-goes}
 use Rattle.bus.proofs.Runs.{core-append, clocksIn, clocks-append, clocks-then, fresh-clocks}
 
@@ -45,14 +45,14 @@ entry-is (suc (suc (suc (suc (suc (suc zero)))))) = refl
 entry-is (suc (suc (suc (suc (suc (suc (suc zero))))))) = refl
 entry-is (suc (suc (suc (suc (suc (suc (suc (suc k)))))))) = omega arith
 
-held-due : (x : ℕ) → 0 < held x → (x < 128) × (held x + x % 8 ≡ 6)
-unfolding held
+held-due : (x : ℕ) → 0 < delayInLine x → (x < 128) × (delayInLine x + x % 8 ≡ 6)
+unfolding delayInLine
 held-due x =
     by-le (λ (d : ℕ). 0 < d → (x < 128) × (d + x % 8 ≡ 6)) 128 x (λ h p. absurd (omega arith))
     (λ h p. (h, omega (arith, entry-is (x % 8))))
 
-held-none : (x : ℕ) → x % 8 ≡ 7 → held x ≡ 0
-unfolding held
+held-none : (x : ℕ) → x % 8 ≡ 7 → delayInLine x ≡ 0
+unfolding delayInLine
 held-none x e = by-le (λ (d : ℕ). d ≡ 0) 128 x (λ h. refl) (λ h. entry-is (x % 8) ∙ omega arith)
 
 mod-add-small : (a k n : ℕ) → a % n + k < n → (a + k) % n ≡ a % n + k
@@ -115,7 +115,7 @@ module _ (s : ZXSpecs) (g : Regular s) where
 
 module _ (m : ZXMachine) where
   -- a step that stays within the frame
-  stays : (h : Hold) (n : ℕ) (c : Core) → c .clock + lasts h n < specsOf m .frame → inCore m (step h n) c .clock ≡ c .clock + lasts h n
+  stays : (h : Stall) (n : ℕ) (c : Core) → c .clock + lasts h n < specsOf m .frame → inCore m (step h n) c .clock ≡ c .clock + lasts h n
   unfolding inCore
   stays h n c k = ap (λ (r : Core). r .clock) (core-goes m (lasts h n) c (goes-on-if m (lasts h n) c k))
 
@@ -170,16 +170,16 @@ module _ (m : ZXMachine) where
       (λ f. (omega arith, omega arith)))
 
   -- what a write does between the parts takes no clock
-  abbrev Still : List Op → Core → Type 0
-  Still os c = (clocksIn os ≡ 0) × (coreAfter m os c .clock ≡ c .clock)
+  abbrev NoTime : List Op → Core → Type 0
+  NoTime os c = (clocksIn os ≡ 0) × (coreAfter m os c .clock ≡ c .clock)
 
-  repaged-still : (p : Paged) (c : Core) → Still (repaged p) c
+  repaged-still : (p : Paged) (c : Core) → NoTime (pagingOps p) c
   unfolding clocksIn clocksOf coreAfter inCore
   repaged-still paging.Absent c = (refl, refl)
   repaged-still paging.Locked c = (refl, refl)
   repaged-still (paging.Taken v) c = (refl, refl)
 
-  acts-still : (h : Hearer) (v : ℕ) (c : Core) → Still (acts m h v c) c
+  acts-still : (h : Hearer) (v : ℕ) (c : Core) → NoTime (acts m h v c) c
   unfolding clocksIn clocksOf coreAfter inCore
   acts-still hearer.extender v c = (refl, refl)
   acts-still hearer.aySelect v c = (refl, refl)
@@ -187,7 +187,7 @@ module _ (m : ZXMachine) where
   acts-still hearer.border v c = (refl, refl)
   acts-still hearer.paging v c = repaged-still (write7ffd m (c .paging) v) c
 
-  pub acted-still : (hs : List Hearer) (v : ℕ) (c : Core) → Still (actedOn m hs v c) c
+  pub acted-still : (hs : List Hearer) (v : ℕ) (c : Core) → NoTime (actedOn m hs v c) c
   unfolding clocksIn coreAfter
   acted-still [] v c = (refl, refl)
   acted-still (h ∷ hs) v c =
@@ -257,7 +257,7 @@ coreAt : ℕ → Core → Core
 coreAt t c = record { clock = t; passed = c .passed; phase = c .phase; paging = c .paging; reported = c .reported; ram = c .ram }
 
 computed : (c : Core) → clocksIn (portRead Sinclair48K 0x40FF (coreAt 14335 c)) ≡ 16
-unfolding coreAt andThen delayed lastPart coreAfter inCore clocksIn clocksOf delay held
+unfolding coreAt andThen delayed lastPart coreAfter inCore clocksIn clocksOf delay delayInLine
 computed c = refl
 
 -- Port 40FFh read at clock 14,335 on 48K takes 16 clocks, whatever else is held: the most that any port call takes.

@@ -19,7 +19,7 @@ use Rattle.bus.specs.Time.{store, paged, unpass, lasts, Op, step, tick, 
 use Rattle.bus.specs.Turns.{clocksOf, blocksOf, closedBy, Turn, fresh, Part, ranBy}
 use Rattle.bus.proofs.OneStep.{frame-long, closes-at, goes-on-at, core-closed, core-goes, screen-closed, screen-goes}
 use Rattle.bus.proofs.Runs.{clocksIn, blocksIn, closedIn, ran-is, fresh-clocks}
-use Rattle.bus.proofs.TimedCalls.{InCall, AllInCall, Timed}
+use Rattle.bus.proofs.TimedCalls.{InCall, AllInCall, TimedPart}
 use Rattle.bus.proofs.Kept.{SoundWorld}
 
 -- From one world to a later one, with what was reported between them, at most one frame closed:
@@ -86,7 +86,7 @@ module _ (m : ZXMachine) where
       (closedBy m o (w .core)) (closedIn m os (inCore m o (w .core))) short x y
 
   -- WHAT A CALL REPORTS: each of the four timed calls (TimedCalls), on a sound world, moves the world by what it reports.
-  pub call-moved : (f : Part) → Timed m f → (w : World) → SoundWorld m w
+  pub call-moved : (f : Part) → TimedPart m f → (w : World) → SoundWorld m w
       → Moved m w (ranBy f (fresh m w) .clocks) (ranBy f (fresh m w) .blocks) (ranBy f (fresh m w) .closed) (ranBy f (fresh m w) .world)
   call-moved f t w s =
       let os = f (w .core) in
@@ -112,7 +112,7 @@ few : (k : Bool) (before blocks now : ℕ) → before + blocks ≡ cond k 6144 0
 few true before blocks now e h = omega arith
 few false before blocks now e h = omega arith
 
-module _ (m : ZXMachine) (f : Part) (t : Timed m f) (w : World) (s : SoundWorld m w) where
+module _ (m : ZXMachine) (f : Part) (t : TimedPart m f) (w : World) (s : SoundWorld m w) where
   -- A call closes a frame exactly if its clocks lead to the frame's end or past it,
   pub call-closes : ranBy f (fresh m w) .closed ≡ leb (specsOf m .frame) (w .core .clock + ranBy f (fresh m w) .clocks)
   call-closes = closes-exactly m w _ _ _ _ (call-moved m f t w s)

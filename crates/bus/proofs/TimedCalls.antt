@@ -16,7 +16,7 @@ use Rattle.ports.specs.Hearers.{Hearer, hearers}
 use Rattle.bus.specs.World.{Core}
 use Rattle.bus.specs.Time.{store, paged, unpass, Op, step, colour, silent}
 use Rattle.bus.specs.Turns.{clocksOf, coreAfter, Part, andThen}
-use Rattle.bus.specs.Calls.{contended, plainWait, delayed, addressWait, firstPart, lastPart, finalStep, readBefore, portRead, repaged, acts, actedOn, portWrite}
+use Rattle.bus.specs.Calls.{contended, plainWait, delayed, addressWait, firstPart, lastPart, finalStep, readBefore, portRead, pagingOps, acts, actedOn, portWrite}
 use Rattle.bus.proofs.Runs.{clocksIn}
 use Rattle.bus.proofs.PortClocks.{wait-clocks, read-small, write-small}
 
@@ -33,7 +33,7 @@ AllInCall m [] = Unit {0}
 AllInCall m (o ∷ os) = InCall m o × AllInCall m os
 
 -- a part of such operations that takes at most 65,535 clocks and a delay, whatever the core
-pub record Timed (m : ZXMachine) (f : Part) : Type 0 where
+pub record TimedPart (m : ZXMachine) (f : Part) : Type 0 where
   pub inCall : (c : Core) → AllInCall m (f c)
   pub brief : (c : Core) → clocksIn (f c) ≤ 65541
 
@@ -69,10 +69,10 @@ module _ (m : ZXMachine) where
   in-read port =
       both (readBefore m port) finalStep (both (firstPart m port) (lastPart m port) (in-wait port 1) (in-last port)) (in-plain 1)
 
-in-repaged : (m : ZXMachine) (held v : ℕ) → v < 256 → AllInCall m (repaged (write7ffd m held v))
+in-repaged : (m : ZXMachine) (held v : ℕ) → v < 256 → AllInCall m (pagingOps (write7ffd m held v))
 unfolding write7ffd
 in-repaged Sinclair48K held v h = tt
-in-repaged Sinclair128K held v h = by-bool (λ (p : Paged). AllInCall Sinclair128K (repaged p)) (bitSet 5 held) (λ e. tt) (λ e. ((h, refl), tt))
+in-repaged Sinclair128K held v h = by-bool (λ (p : Paged). AllInCall Sinclair128K (pagingOps p)) (bitSet 5 held) (λ e. tt) (λ e. ((h, refl), tt))
 
 module _ (m : ZXMachine) where
   in-acts : (x : Hearer) (v : ℕ) → v < 256 → In m (acts m x v)
@@ -99,14 +99,14 @@ module _ (m : ZXMachine) where
   plain-brief n h c = omega arith
 
   -- THE FOUR TIMED CALLS, with the bounds that refusal 5 and the bytes' range leave.
-  pub plain-timed : (n : ℕ) → n ≤ 65541 → Timed m (plainWait n)
+  pub plain-timed : (n : ℕ) → n ≤ 65541 → TimedPart m (plainWait n)
   plain-timed n h = record { inCall = in-plain m n; brief = plain-brief n h }
 
-  pub address-timed : (addr n : ℕ) → n ≤ 65535 → Timed m (addressWait m addr n)
+  pub address-timed : (addr n : ℕ) → n ≤ 65535 → TimedPart m (addressWait m addr n)
   address-timed addr n h = record { inCall = in-wait m addr n; brief = λ c. omega (arith, wait-clocks m addr n c) }
 
-  pub read-timed : (port : ℕ) → Timed m (portRead m port)
+  pub read-timed : (port : ℕ) → TimedPart m (portRead m port)
   read-timed port = record { inCall = in-read m port; brief = λ c. omega (arith, read-small m port c) }
 
-  pub write-timed : (d : Devices) (port v : ℕ) → v < 256 → Timed m (portWrite m d port v)
+  pub write-timed : (d : Devices) (port v : ℕ) → v < 256 → TimedPart m (portWrite m d port v)
   write-timed d port v h = record { inCall = in-write d port v h; brief = λ c. omega (arith, write-small m d port v c) }

@@ -84,13 +84,13 @@ unfoldable pub readValue : ZXMachine → Devices → ℕ → Core → ℕ
 readValue m d port c = answered m (readOrder d port) (coreAfter m (readBefore m port c) c)
 
 -- what a 7FFD write does to the bus
-abbrev pub repaged : Paged → List Op
-repaged paging.Absent = []
-repaged paging.Locked = []
-repaged (paging.Taken v) = silent (paged v) ∷ []
+abbrev pub pagingOps : Paged → List Op
+pagingOps paging.Absent = []
+pagingOps paging.Locked = []
+pagingOps (paging.Taken v) = silent (paged v) ∷ []
 
 abbrev pub pagingWrite : ZXMachine → ℕ → Part
-pagingWrite m v c = repaged (write7ffd m (c .paging) v)
+pagingWrite m v c = pagingOps (write7ffd m (c .paging) v)
 
 -- what one that hears a write does to the bus: the border takes bits 0 to 2; extender and AY are the firmware's
 abbrev pub acts : ZXMachine → Hearer → ℕ → Part

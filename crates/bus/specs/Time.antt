@@ -53,12 +53,12 @@ caughtUp l shows-a s =
     }
 
 -- what a step waits out before its own clocks: nothing, where no delay is asked for, or the delay that is due
-pub data Hold : Type 0 where
-  free : Hold
-  due : ℕ → Hold
+pub data Stall : Type 0 where
+  free : Stall
+  due : ℕ → Stall
 
 -- how long a step is: its delay, if any, and its own clocks
-abbrev pub lasts : Hold → ℕ → ℕ
+abbrev pub lasts : Stall → ℕ → ℕ
 lasts free n = n
 lasts (due d) n = d + n
 
@@ -71,7 +71,7 @@ pub data Silent : Type 0 where
 
 -- the operations that calls are made of: a step, a border write of a colour, and the silent ones
 pub data Op : Type 0 where
-  step : Hold → ℕ → Op
+  step : Stall → ℕ → Op
   colour : ℕ → Op
   silent : Silent → Op
 

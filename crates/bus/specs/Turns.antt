@@ -7,7 +7,7 @@ use Rattle.machine.specs.declared.ZXMachine.{ZXMachine}
 use Rattle.machine.specs.Numbers.{specsOf}
 use Rattle.machine.specs.Timing.{blockPosition}
 use Rattle.bus.specs.World.{Core, World}
-use Rattle.bus.specs.Time.{Hold, free, due, lasts, Op, step, colour, silent, closes, inCore, does}
+use Rattle.bus.specs.Time.{Stall, free, due, lasts, Op, step, colour, silent, closes, inCore, does}
 
 -- "clocks (32)": those of its steps
 unfoldable pub clocksOf : Op → ℕ
@@ -16,7 +16,7 @@ clocksOf (colour k) = 0
 clocksOf (silent o) = 0
 
 -- of these the delays, and the steps' own clocks
-abbrev pub delayIn : Hold → ℕ
+abbrev pub delayIn : Stall → ℕ
 delayIn free = 0
 delayIn (due d) = d
 

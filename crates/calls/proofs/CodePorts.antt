@@ -29,7 +29,7 @@ use Rattle.steps.specs.declared.Turning.{Turning}
 use Rattle.bus.specs.World.{Core, Screen}
 use Rattle.bus.specs.Time.{tick, inCore, inScreen, inEdge}
 use Rattle.bus.specs.Turns.{Turn, turned, ran, clocksOf, blocksOf, closedBy, Part, andThen, ranBy}
-use Rattle.bus.specs.Calls.{plainWait, firstPart, lastPart, finalStep, portRead, floatingByte, floatingBus, answered, readValue, repaged, pagingWrite, actedOn, portWrite, writeCode}
+use Rattle.bus.specs.Calls.{plainWait, firstPart, lastPart, finalStep, portRead, floatingByte, floatingBus, answered, readValue, pagingOps, pagingWrite, actedOn, portWrite, writeCode}
 use Rattle.bus.specs.Clocks.{firstClocks, lastClocks, partClocks, inkedAtClock, atClock}
 use Rattle.bus.proofs.Runs.{acts-alone}
 use Rattle.bus.proofs.PortSteps.{first-small, last-small, step-paging, first-step, last-final, read-step, quiet-step, border-step, read-value}
@@ -131,7 +131,7 @@ withPaging t v =
     }
 
 repaged-by : (t : Turning) (p : Paged) (ram a b border : List ℕ)
-    → turnOf (withPaging t (pagingAfter p (t .bus .paging))) ram a b border ≡ ran (repaged p) (turnOf t ram a b border)
+    → turnOf (withPaging t (pagingAfter p (t .bus .paging))) ram a b border ≡ ran (pagingOps p) (turnOf t ram a b border)
 unfolding turned ran inCore inScreen inEdge clocksOf blocksOf closedBy
 repaged-by t paging.Absent ram a b border = refl
 repaged-by t paging.Locked ram a b border = refl
@@ -144,7 +144,7 @@ pub repaged-is : (t : Turning) (v x : ℕ) (p : Paged) → p ≡ write7ffd (t .b
 repaged-is t v x p e f ram a b border =
     ap (λ (y : ℕ). turnOf (withPaging t y) ram a b border) f
     ∙ repaged-by t p ram a b border
-    ∙ ap (λ (q : Paged). ran (repaged q) (turnOf t ram a b border)) e
+    ∙ ap (λ (q : Paged). ran (pagingOps q) (turnOf t ram a b border)) e
 
 -- ---- a port write
 

@@ -24,7 +24,7 @@ use Rattle.border.proofs.Fills.{length-filled}
 use Rattle.bus.specs.World.{Screen}
 use Rattle.bus.specs.Time.{Look, paged, tick, silent, caughtUp, inCore, inScreen, inEdge}
 use Rattle.bus.specs.Turns.{Turn, turned, ran, clocksOf, blocksOf, ranBy}
-use Rattle.bus.specs.Calls.{repaged, pagingWrite}
+use Rattle.bus.specs.Calls.{pagingOps, pagingWrite}
 use Rattle.bus.specs.Clocks.{inkedAtClock}
 use Rattle.steps.specs.Turned.{Ready}
 use Rattle.steps.proofs.CodeStep.{onTick, overTick, tick-on, tick-over}
@@ -159,7 +159,7 @@ ready-paged t s c v r =
     }
 
 -- a 7FFD write, whatever becomes of it
-repaged-ready : (p : Paged) (t : Turn) (s c : ℕ) → Ready t s c → Ready (ran (repaged p) t) s c
+repaged-ready : (p : Paged) (t : Turn) (s c : ℕ) → Ready t s c → Ready (ran (pagingOps p) t) s c
 unfolding ran
 repaged-ready paging.Absent t s c r = r
 repaged-ready paging.Locked t s c r = r

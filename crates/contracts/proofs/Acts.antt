@@ -29,10 +29,10 @@ use Rattle.ports.specs.Devices.{devicesOf}
 use Rattle.bus.specs.World.{Core, World, busOf, started}
 use Rattle.bus.specs.Time.{paged, unpass, Op, silent, inCore, inScreen, inEdge, worldAfter}
 use Rattle.bus.specs.Turns.{clocksOf, Part, ran, fresh, ranBy}
-use Rattle.bus.specs.Calls.{repaged}
+use Rattle.bus.specs.Calls.{pagingOps}
 use Rattle.bus.specs.Pokes.{poking, pageLoad}
 use Rattle.bus.proofs.Runs.{clocksIn, blocksIn, closedIn, ran-is, ran-world, fresh-blocks}
-use Rattle.bus.proofs.TimedCalls.{Timed, plain-timed, address-timed, read-timed, write-timed}
+use Rattle.bus.proofs.TimedCalls.{TimedPart, plain-timed, address-timed, read-timed, write-timed}
 use Rattle.bus.proofs.Lengths.{SameLengths, lengths-kept, call-lengths, started-whole}
 use Rattle.bus.proofs.Kept.{SoundWorld, InRange, op-kept, call-kept}
 use Rattle.bus.proofs.Reports.{call-fits}
@@ -109,9 +109,9 @@ module _ (m : ZXMachine) (w : World) (sound : SoundWorld m w) (sized : Sized m w
       by (portOut devices port′ value) h = ap (timedCall (partOf (portOut devices port′ value)) (valueOf (portOut devices port′ value)) l answer) (port devices h)
 
     -- of operations of a timed call, within refusal 5's limit
-    part-timed : Typed (takeTime t answer) → Timed m (partOf t m)
+    part-timed : Typed (takeTime t answer) → TimedPart m (partOf t m)
     part-timed typed = by t h typed where
-      by : (t : TimedCall) → NoneHolds (timedCauses t l answer) → Typed (takeTime t answer) → Timed m (partOf t m)
+      by : (t : TimedCall) → NoneHolds (timedCauses t l answer) → Typed (takeTime t answer) → TimedPart m (partOf t m)
       by (plain k) h typed = plain-timed m k (omega (arith, ltb-false longestWait k (h .1 .1 .1 .0)))
       by (mreq addr k) h typed = address-timed m addr k (ltb-false longestWait k (h .1 .1 .1 .0))
       by (noMreq addr k) h typed = address-timed m addr k (ltb-false longestWait k (h .1 .1 .1 .0))
@@ -225,13 +225,13 @@ module _ (m : ZXMachine) (w : World) (sound : SoundWorld m w) (sized : Sized m w
         kept = one-kept (silent unpass) tt refl;
       }
 
-  paged-world : (p : Paged) → withState l (recordBytes (withPaging (pagingAfter p (w .core .paging)) (busOf m w))) ≡ lentBy m (worldAfter m (repaged p) w)
+  paged-world : (p : Paged) → withState l (recordBytes (withPaging (pagingAfter p (w .core .paging)) (busOf m w))) ≡ lentBy m (worldAfter m (pagingOps p) w)
   unfolding worldAfter inCore inScreen inEdge
   paged-world paging.Absent = refl
   paged-world paging.Locked = refl
   paged-world (paging.Taken v) = refl
 
-  paged-kept : (v : ℕ) → v < 256 → (p : Paged) → Takes m v p → Kept m (repaged p) w
+  paged-kept : (v : ℕ) → v < 256 → (p : Paged) → Takes m v p → Kept m (pagingOps p) w
   unfolding clocksOf
   paged-kept v h paging.Absent f = none-kept
   paged-kept v h paging.Locked f = none-kept

@@ -35,7 +35,7 @@ use Rattle.ports.proofs.Hearing.{picked}
 use Rattle.bus.specs.World.{Core, busOf}
 use Rattle.bus.specs.Time.{Op, closes, inCore}
 use Rattle.bus.specs.Turns.{coreAfter, fresh, Part, andThen, ranBy}
-use Rattle.bus.specs.Calls.{contended, plainWait, delayed, addressWait, firstPart, delayStep, lastPart, finalStep, readBefore, portRead, repaged, actedOn, portWrite, writeCode}
+use Rattle.bus.specs.Calls.{contended, plainWait, delayed, addressWait, firstPart, delayStep, lastPart, finalStep, readBefore, portRead, pagingOps, actedOn, portWrite, writeCode}
 use Rattle.bus.proofs.Runs.{ran-machine, ran-core, core-then, acts-alone}
 use Rattle.answers.specs.declared.Verdict.{Verdict}
 use Rattle.answers.specs.declared.Verdict.the-variants.{Refused, Accepted}
@@ -275,7 +275,7 @@ module _ (m : ZXMachine) where
       (keep-step 1)
 
   -- a 7FFD write that does not answer 5 was not taken
-  keep-repaged : (p : Paged) (c : Core) → (pagedCode p ≡ renews → ⊥) → Leaves c (repaged p)
+  keep-repaged : (p : Paged) (c : Core) → (pagedCode p ≡ renews → ⊥) → Leaves c (pagingOps p)
   unfolding coreAfter
   keep-repaged paging.Absent c n = refl
   keep-repaged paging.Locked c n = refl

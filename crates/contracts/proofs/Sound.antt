@@ -27,7 +27,7 @@ use Rattle.bus.specs.Time.{inCore, inScreen, inEdge}
 use Rattle.bus.specs.Turns.{Part, fresh, ranBy}
 use Rattle.bus.specs.Calls.{plainWait, addressWait, portRead, portWrite}
 use Rattle.bus.proofs.Runs.{ran-machine}
-use Rattle.bus.proofs.TimedCalls.{Timed, plain-timed, address-timed, read-timed, write-timed}
+use Rattle.bus.proofs.TimedCalls.{TimedPart, plain-timed, address-timed, read-timed, write-timed}
 use Rattle.bus.proofs.Kept.{unpass-kept, call-kept}
 use Rattle.answers.specs.declared.Verdict.{Verdict}
 use Rattle.answers.specs.declared.Verdict.the-variants.{Refused, Accepted}
@@ -49,7 +49,7 @@ good bus s = (bus, held-encode bus (facts-sound bus s))
 record Runs (part : ZXMachine → Part) (bus : Bus) : Type 0 where
   sound : Sound bus
   room : HasRoom (bus .passed)
-  brief : Timed (bus .machine) (part (bus .machine))
+  brief : TimedPart (bus .machine) (part (bus .machine))
 
 module _ (part : ZXMachine → Part) (value : ZXMachine → Core → ℕ) (l : Lent) (answer : List ℕ) where
   accepted-good : (bus : Bus) → Runs part bus → Good (timedCall part value l answer (Accepted bus) .slices .state)

@@ -17,7 +17,7 @@ use Rattle.memory.specs.declared.Paged.the-variants as paging
 use Rattle.bus.specs.World.{Core, World}
 use Rattle.bus.specs.Time.{lasts, Op, step, tick, colour, silent, closes, inCore, does}
 use Rattle.bus.specs.Turns.{clocksOf, blocksOf, closedBy}
-use Rattle.bus.specs.Calls.{repaged}
+use Rattle.bus.specs.Calls.{pagingOps}
 use Rattle.bus.specs.Pokes.{poking}
 use Rattle.bus.proofs.OneStep.{frame-long, closes-at, core-closed, core-goes}
 use Rattle.bus.proofs.Runs.{clocksIn, blocksIn, closedIn}
@@ -103,7 +103,7 @@ pub poke-silent : (p : Place) (value : ℕ) → AllSilent (poking p value)
 poke-silent (place.Rom at) value = tt
 poke-silent (place.Ram at) value = tt
 
-pub paged-silent : (p : Paged) → AllSilent (repaged p)
+pub paged-silent : (p : Paged) → AllSilent (pagingOps p)
 paged-silent paging.Absent = tt
 paged-silent paging.Locked = tt
 paged-silent (paging.Taken v) = tt

@@ -22,7 +22,7 @@ use Rattle.record.proofs.Round.{held-encode}
 use Rattle.paint.proofs.Painting.{paint-out}
 use Rattle.memory.specs.Memory.{ramPage}
 use Rattle.bus.specs.World.{World, busOf}
-use Rattle.bus.specs.Time.{Hold, lasts, Op, step, tick, colour, silent, lookAt, showsA, shownPicture, hiddenPicture, caughtUp, closes, inCore, inScreen, inEdge, does, worldAfter}
+use Rattle.bus.specs.Time.{Stall, lasts, Op, step, tick, colour, silent, lookAt, showsA, shownPicture, hiddenPicture, caughtUp, closes, inCore, inScreen, inEdge, does, worldAfter}
 use Rattle.bus.specs.Turns.{closedBy}
 use Rattle.bus.proofs.OneStep.{core-goes, screen-closed, screen-goes, closes-at}
 use Rattle.bus.proofs.Runs.{clocksIn, blocksIn}
@@ -135,7 +135,7 @@ module _ (m : ZXMachine) where
       ∙ paint-out (ramPage (l .page) (l .ram)) (l .flash) from (l .at - from) (hiddenPicture (w .core) (w .screen)) i out′)
 
   -- Every other operation leaves both pictures as they were.
-  pub pictures-alone : (o : Op) (w : World) → ((h : Hold) (n : ℕ) → o ≡ step h n → ⊥) → does m o w .screen ≡ w .screen
+  pub pictures-alone : (o : Op) (w : World) → ((h : Stall) (n : ℕ) → o ≡ step h n → ⊥) → does m o w .screen ≡ w .screen
   unfolding inScreen
   pictures-alone (step k n) w h = absurd (h k n refl)
   pictures-alone (colour k) w h = refl
@@ -170,7 +170,7 @@ module _ (m : ZXMachine) where
   -- call does after it stands on the right-hand side.
   pub record Wall (os : List Op) (w : World) : Type 0 where
     pub before : List Op
-    pub hold : Hold
+    pub hold : Stall
     pub n : ℕ
     pub rest : List Op
     pub parts : os ≡ before ++ step hold n ∷ rest
@@ -257,7 +257,7 @@ module _ (m : ZXMachine) (w : World) (fresh : Fresh m w) (cs : List Made) (obeye
       (small-front before rest (subst AllSmall parts (here .small))) (history-stands m w fresh cs obeyed typed again .inv)
 
   -- "and it changes no other byte of a picture": so each step of the call leaves of the hidden picture what is not of the blocks that it paints.
-  pub others-alone : (before rest : List Op) (h : Hold) (n : ℕ) → operations m c (world .core) ≡ before ++ step h n ∷ rest
+  pub others-alone : (before rest : List Op) (h : Stall) (n : ℕ) → operations m c (world .core) ≡ before ++ step h n ∷ rest
       → (i : ℕ) → Leaves m (lasts h n) (worldAfter m before world) i
   others-alone before rest h n parts =
       let v = worldAfter m before world in

@@ -14,7 +14,7 @@ use Rattle.machine.specs.declared.ZXMachine.{ZXMachine}
 use Rattle.machine.specs.declared.ZXMachine.the-variants.{Sinclair48K, Sinclair128K}
 use Rattle.machine.specs.declared.ZXSpecs.{ZXSpecs}
 use Rattle.machine.specs.Numbers.{specsOf}
-use Rattle.machine.specs.Timing.{pattern, held, delay, blocksIn, blocksFrom, blocksAt, blockPosition, borderIn, borderFrom, borderAt, borderPosition, interrupt}
+use Rattle.machine.specs.Timing.{pattern, delayInLine, delay, blocksCapped, blocksFrom, blocksAt, blockPosition, borderCapped, borderFrom, borderAt, borderPosition, interrupt}
 use Rattle.machine.specs.Pages.{Page, pageOf, laps, patterns, scan, lasts, interrupt48K, ticks, passed, pageDelay, pageBlocks, windowStart, pagePairs, readShift}
 
 -- what the two sets of numbers of one machine have to do with each other
@@ -62,7 +62,7 @@ patterns-at (suc k) (suc (suc (suc (suc (suc (suc (suc (suc y)))))))) h = let e 
 
 -- document 01's delay, c clocks after the start of k lines
 doc : ℕ → ℕ → ℕ → ℕ → ℕ
-doc k start line t = cond (ltb t start) 0 (cond (leb (start + k * line) t) 0 (held ((t - start) % line)))
+doc k start line t = cond (ltb t start) 0 (cond (leb (start + k * line) t) 0 (delayInLine ((t - start) % line)))
 
 doc-next : (k start line t : ℕ) → 0 < line → start + line ≤ t → doc k (start + line) line t ≡ doc (suc k) start line t
 unfolding doc
@@ -77,7 +77,7 @@ unfolding scan
 scan-past k start line t h = simp (le-ltb t start (omega arith), le-ltb t (start + 128) h)
 
 scan-is : (k start line t : ℕ) → 128 ≤ line → scan k start line t ≡ doc k start line t
-unfolding scan doc held
+unfolding scan doc delayInLine
 scan-is zero start line t w = split start t (λ h. simp (le-ltb t start h, le-leb (start + 0 * line) t (omega arith))) (λ h. simp (lt-ltb t start h))
 scan-is (suc k) start line t w =
     split start t (λ h. split (start + 128) t (λ h₁. split (start + line) t
@@ -152,7 +152,7 @@ passed-is (suc k) n step line start t p q w h =
 
 -- ---- document 01's positions in the closed form
 blocks-pos : (s : ZXSpecs) (t : ℕ) → s .block ≤ t → blockPosition s t ≡ pos 192 32 4 (s .line) (t - s .block)
-unfolding blocksAt blocksFrom blocksIn pos upto
+unfolding blocksAt blocksFrom blocksCapped pos upto
 blocks-pos s t h =
     let q = (t - s .block) / s .line in
     let x = (t - s .block) % s .line / 4 + 1 in
@@ -167,7 +167,7 @@ blocks-pos s t h =
     (λ l₂. simp (le-ltb t (s .block) h, lt-ltb 32 x l, lt-leb x 32 l, lt-leb 192 q l₁, lt-leb 192 (q + 1) l₂) (omega arith))))
 
 border-pos : (s : ZXSpecs) (t : ℕ) → s .border ≤ t → borderPosition s t ≡ 2 * pos 240 160 1 (s .line) (t - s .border)
-unfolding borderAt borderFrom borderIn pos upto
+unfolding borderAt borderFrom borderCapped pos upto
 border-pos s t h =
     let q = (t - s .border) / s .line in
     let r = (t - s .border) % s .line in

@@ -9,7 +9,7 @@ use Rattle.machine.specs.declared.ZXSpecs.{ZXSpecs}
 use Rattle.machine.specs.declared.BlocksCount.{BlocksCount}
 use Rattle.machine.specs.declared.BorderPlace.{BorderPlace}
 use Rattle.machine.specs.declared.BorderPlace.the-variants.{At, FrameEnd}
-use Rattle.machine.specs.Timing.{pattern, held, delay, blocksIn, blocksFrom, blocksAt, blockPosition, borderIn, borderFrom, borderAt, borderPosition}
+use Rattle.machine.specs.Timing.{pattern, delayInLine, delay, blocksCapped, blocksFrom, blocksAt, blockPosition, borderCapped, borderFrom, borderAt, borderPosition}
 
 -- no delay is over 6
 entry-small : (k : ℕ) → getD pattern k 0 ≤ 6
@@ -23,8 +23,8 @@ entry-small (suc (suc (suc (suc (suc (suc zero)))))) = omega arith
 entry-small (suc (suc (suc (suc (suc (suc (suc zero))))))) = omega arith
 entry-small (suc (suc (suc (suc (suc (suc (suc (suc y)))))))) = omega arith
 
-held-small : (x : ℕ) → held x ≤ 6
-unfolding held
+held-small : (x : ℕ) → delayInLine x ≤ 6
+unfolding delayInLine
 held-small x = by-le (λ (d : ℕ). d ≤ 6) 128 x (λ h. omega arith) (λ h. entry-small (x % 8))
 
 pub delay-small : (s : ZXSpecs) (t : ℕ) → delay s t ≤ 6
@@ -39,8 +39,8 @@ pub record Small (b : BlocksCount) : Type 0 where
   pub in-columns : b .columns ≤ 32
   pub in-all : 32 * b .lines + b .columns ≤ 6144
 
-in-small : (line column : ℕ) → column ≤ 32 → Small (blocksIn line column)
-unfolding blocksIn
+in-small : (line column : ℕ) → column ≤ 32 → Small (blocksCapped line column)
+unfolding blocksCapped
 in-small line column h =
     by-le Small 192 line
     (λ l. record { in-lines = omega arith; in-columns = omega arith; in-all = omega arith })
@@ -65,8 +65,8 @@ abbrev pub Within : BorderPlace → Type 0
 Within (At line pixel) = (line < 240) × (pixel ≤ 320) × (pixel % 2 ≡ 0)
 Within FrameEnd = Unit {0}
 
-in-within : (line pixel : ℕ) → pixel ≤ 320 → pixel % 2 ≡ 0 → Within (borderIn line pixel)
-unfolding borderIn
+in-within : (line pixel : ℕ) → pixel ≤ 320 → pixel % 2 ≡ 0 → Within (borderCapped line pixel)
+unfolding borderCapped
 in-within line pixel h e = by-le Within 240 line (λ l. tt) (λ l. (l, h, e))
 
 from-within : (line pixel : ℕ) → pixel % 2 ≡ 0 → Within (borderFrom line pixel)

@@ -8,12 +8,12 @@ use borrow.Author.Tests.{lt-ltb, le-ltb, le-leb}
 use Rattle.laws.proofs.Cases.{by-lt, by-le, split}
 use Rattle.machine.specs.declared.ZXSpecs.{ZXSpecs}
 use Rattle.machine.specs.Numbers.{Regular}
-use Rattle.machine.specs.Timing.{held, delay}
+use Rattle.machine.specs.Timing.{delayInLine, delay}
 use Rattle.machine.proofs.Bounds.{delay-small}
 
 -- a delay is due only in the first 128 clocks of a line
-held-early : (x : ℕ) → 0 < held x → x < 128
-unfolding held
+held-early : (x : ℕ) → 0 < delayInLine x → x < 128
+unfolding delayInLine
 held-early x = by-le (λ (d : ℕ). 0 < d → x < 128) 128 x (λ h p. absurd (omega arith)) (λ h p. h)
 
 -- A delay above 0 ends within the 192 lines that have delays, for it ends before its line does,

@@ -12,7 +12,7 @@ use Rattle.machine.specs.declared.ZXSpecs.{ZXSpecs}
 use Rattle.machine.specs.declared.BorderPlace.{BorderPlace}
 use Rattle.machine.specs.declared.BorderPlace.the-variants.{At, FrameEnd}
 use Rattle.machine.specs.Numbers.{Regular}
-use Rattle.machine.specs.Timing.{blocksIn, blocksFrom, blocksAt, blockPosition, borderIn, borderFrom, borderAt, borderPosition, placePosition, isFrameEnd, frameEnd}
+use Rattle.machine.specs.Timing.{blocksCapped, blocksFrom, blocksAt, blockPosition, borderCapped, borderFrom, borderAt, borderPosition, placePosition, isFrameEnd, frameEnd}
 use Rattle.machine.specs.Pages.{ticks, passed}
 use Rattle.machine.proofs.Agree.{blocks-are, pairs-are}
 use Rattle.machine.proofs.Bounds.{Within, border-within}
@@ -41,7 +41,7 @@ module _ (s : ZXSpecs) (w : 160 ≤ s .line) (t t′ : ℕ) (h : t ≤ t′) whe
 
 -- ---- the frame's end comes 160 clocks into the last line of the border
 pub end-is : (s : ZXSpecs) → 160 ≤ s .line → (t : ℕ) → frameEnd s t ≡ leb (s .border + 239 * s .line + 160) t
-unfolding borderAt borderFrom borderIn
+unfolding borderAt borderFrom borderCapped
 end-is s w t =
     let l = s .line in
     let c = t - s .border in
@@ -61,7 +61,7 @@ end-is s w t =
 
 -- the last block comes 124 clocks into the last line of the picture, and the position stays there
 pub last-block : (s : ZXSpecs) → 160 ≤ s .line → (t : ℕ) → s .block + 191 * s .line + 124 ≤ t → blockPosition s t ≡ 6144
-unfolding blocksAt blocksFrom blocksIn
+unfolding blocksAt blocksFrom blocksCapped
 last-block s w t h =
     let l = s .line in
     let c = t - s .block in

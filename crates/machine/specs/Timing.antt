@@ -16,23 +16,23 @@ abbrev pub pattern : List ℕ
 pattern = 6 ∷ 5 ∷ 4 ∷ 3 ∷ 2 ∷ 1 ∷ 0 ∷ 0 ∷ []
 
 -- "From 128 on the delay is 0, below that it is entry x mod 8"
-unfoldable pub held : ℕ → ℕ
-held x = cond (leb 128 x) 0 (getD pattern (x % 8) 0)
+unfoldable pub delayInLine : ℕ → ℕ
+delayInLine x = cond (leb 128 x) 0 (getD pattern (x % 8) 0)
 
 -- "Zero before the contention origin and from 192 lines after it. Otherwise let x be the clocks since the origin modulo the line."
 unfoldable pub delay : ZXSpecs → ℕ → ℕ
 delay s clock =
     cond (ltb clock (s .contention)) 0
     (cond (leb (s .contention + 192 * s .line) clock) 0
-    (held ((clock - s .contention) % s .line)))
+    (delayInLine ((clock - s .contention) % s .line)))
 
 -- "line 192 or later is 6,144"
-unfoldable pub blocksIn : ℕ → ℕ → BlocksCount
-blocksIn line column = cond (leb 192 line) (record { lines = 192; columns = 0 }) (record { lines = line; columns = column })
+unfoldable pub blocksCapped : ℕ → ℕ → BlocksCount
+blocksCapped line column = cond (leb 192 line) (record { lines = 192; columns = 0 }) (record { lines = line; columns = column })
 
 -- "a column above 32 becomes column 0 of the next line"
 unfoldable pub blocksFrom : ℕ → ℕ → BlocksCount
-blocksFrom line column = cond (ltb 32 column) (blocksIn (line + 1) 0) (blocksIn line column)
+blocksFrom line column = cond (ltb 32 column) (blocksCapped (line + 1) 0) (blocksCapped line column)
 
 -- "Before the block origin 0. Otherwise with c clocks since it: line c / line length, column (c mod line length) / 4 + 1"
 unfoldable pub blocksAt : ZXSpecs → ℕ → BlocksCount
@@ -45,12 +45,12 @@ abbrev pub blockPosition : ZXSpecs → ℕ → ℕ
 blockPosition s clock = 32 * blocksAt s clock .lines + blocksAt s clock .columns
 
 -- "line 240 or later is frame end"
-unfoldable pub borderIn : ℕ → ℕ → BorderPlace
-borderIn line pixel = cond (leb 240 line) FrameEnd (At line pixel)
+unfoldable pub borderCapped : ℕ → ℕ → BorderPlace
+borderCapped line pixel = cond (leb 240 line) FrameEnd (At line pixel)
 
 -- "a pixel above 320 becomes pixel 0 of the next line"
 unfoldable pub borderFrom : ℕ → ℕ → BorderPlace
-borderFrom line pixel = cond (ltb 320 pixel) (borderIn (line + 1) 0) (borderIn line pixel)
+borderFrom line pixel = cond (ltb 320 pixel) (borderCapped (line + 1) 0) (borderCapped line pixel)
 
 -- "Before the border origin 0. Otherwise line c / line length and pixel 2 x (c mod line length + 1)"
 unfoldable pub borderAt : ZXSpecs → ℕ → BorderPlace

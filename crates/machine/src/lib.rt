@@ -5,7 +5,7 @@ ghost use mathlib.Core.Path.{_≡_};
 ghost use Prim.Native.Nat.{_/_};
 ghost use lib.Dec.{leb};
 ghost use Rattle.machine.specs.Numbers.{specsOf, Regular};
-ghost use Rattle.machine.specs.Timing.{delay, blocksIn, blocksAt, blockPosition, borderIn, borderAt, borderPosition, frameEnd, interrupt};
+ghost use Rattle.machine.specs.Timing.{delay, blocksCapped, blocksAt, blockPosition, borderCapped, borderAt, borderPosition, frameEnd, interrupt};
 ghost use Rattle.machine.specs.Contended.{portContended, bankContended};
 
 pub enum ZXMachine {
@@ -286,7 +286,7 @@ fn end_reached_by(s: ZXSpecs, clocks: u32) -> bool
 
 // Line 192 or later is the end.
 fn blocks_in(line: u32, column: u32) -> BlocksCount
-    ensures { λ r. ⌜ r ≡ blocksIn line column ⌝ }
+    ensures { λ r. ⌜ r ≡ blocksCapped line column ⌝ }
 {
     if 192 <= line {
         BlocksCount {
@@ -303,7 +303,7 @@ fn blocks_in(line: u32, column: u32) -> BlocksCount
 
 // Line 240 or later is frame end.
 fn border_in(line: u32, pixel: u32) -> BorderPlace
-    ensures { λ r. ⌜ r ≡ borderIn line pixel ⌝ }
+    ensures { λ r. ⌜ r ≡ borderCapped line pixel ⌝ }
 {
     if 240 <= line {
         BorderPlace::FrameEnd

@@ -1,7 +1,7 @@
 -- Document 01, "Bus calls": the port classes, and who answers a read.
 -- Assumes nothing.
 use Prim.Native.Nat.{ℕ, _%_}
-use mathlib.Core.Bool.{Bool, true, false, cond, _&&_}
+use mathlib.Core.Bool.{Bool, true, false, cond}
 use lib.Dec.{eqb}
 use lib.Bits.{bitAnd}
 use Rattle.machine.specs.declared.ZXMachine.{ZXMachine}

@@ -22,22 +22,22 @@ use Rattle.memory.proofs.Places.{map-holds}
 use Rattle.bus.specs.World.{World, started}
 use Rattle.bus.specs.Time.{Silent, paged, unpass, silent, does, worldAfter}
 use Rattle.bus.specs.Turns.{clocksOf, Part, fresh, ranBy}
-use Rattle.bus.specs.Calls.{plainWait, addressWait, portRead, repaged, pagingWrite, portWrite}
+use Rattle.bus.specs.Calls.{plainWait, addressWait, portRead, pagingOps, pagingWrite, portWrite}
 use Rattle.bus.proofs.OneStep.{frame-long}
 use Rattle.bus.proofs.Runs.{ran-world}
 use Rattle.bus.proofs.Kept.{SoundWorld, InRange, started-sound, op-kept, call-kept}
 use Rattle.bus.proofs.Reports.{call-moved}
-use Rattle.bus.proofs.TimedCalls.{Timed, plain-timed, address-timed, read-timed, write-timed}
+use Rattle.bus.proofs.TimedCalls.{TimedPart, plain-timed, address-timed, read-timed, write-timed}
 use Rattle.machine.specs.declared.ZXMachine as ours
 use Rattle.machine.specs.declared.ZXMachine.the-variants as our
-use Rattle.rustzx.specs.Panics.{Run, done, andThen, Ends}
+use Rattle.rustzx.specs.Panics.{Run, done, onDone, Ends}
 use Rattle.rustzx.specs.Machine.{ZXMachine, Sinclair48K, Sinclair128K, specs}
 use Rattle.rustzx.specs.Memory.{Page, Rom, Ram, ZXMemory, ramPageData, pageData, blockData}
 use Rattle.rustzx.specs.Controller as rust
 use Rattle.rustzx.specs.Controller.{ZXController, Reached, Wrote, new, withRom}
 use Rattle.rustzx.specs.Related.{ourMachine, ourPage, attachedOf, Related}
 use Rattle.bus.specs.Pokes.{poking, byteWrite, pageLoad, passedReset}
-use Rattle.rustzx.specs.Calls.{Call, waitInternal, waitMreq, waitNoMreq, readIo, writeIo, readInternal, writeInternal, write7ffd, read7ffd, intActive, framesCount, resetFrameCounter, loadPage, ramPageOf, blockOf, screenBuffer, borderBuffer, Given, reachedCode, pagingCode, gives, acted, wrote, told, performed, partOf, answerOf, after, Accepted, Seen, allPerformed, allAnswers, afterAll, AllAccepted, TimedByRust}
+use Rattle.rustzx.specs.Calls.{Call, waitInternal, waitMreq, waitNoMreq, readIo, writeIo, readInternal, writeInternal, write7ffd, read7ffd, intActive, framesCount, resetFrameCounter, loadPage, ramPageOf, blockOf, screenBuffer, borderBuffer, Given, reachedCode, pagingCode, gives, acted, wrote, handsOut, performed, partOf, answerOf, after, Accepted, Seen, allPerformed, allAnswers, afterAll, AllAccepted, TimedByRust}
 use Rattle.rustzx.proofs.Timing.{frame-is, interrupt-is}
 use Rattle.rustzx.proofs.Pages.{block-page, read-is, bank-type-is, page-data-is}
 use Rattle.rustzx.proofs.Steps.{unpass-related}
@@ -81,8 +81,8 @@ module _ (m : ZXMachine) (rom : List ℕ) where
 
   -- a call that tells bytes and changes nothing
   told-ends : (c : ZXController) (w : World) (x : Run (List ℕ)) (bytes : List ℕ) → Related m rom c w → x ≡ done bytes
-      → Ends (told c x) (λ g. (g .answer ≡ bytes) × Related m rom (g .controller) (ranBy (λ y. []) (fresh (ourMachine m) w) .world))
-  told-ends c w x bytes r e = record { value = gives c bytes; ends = ap (told c) e; holds = (refl, stays c w r) }
+      → Ends (handsOut c x) (λ g. (g .answer ≡ bytes) × Related m rom (g .controller) (ranBy (λ y. []) (fresh (ourMachine m) w) .world))
+  told-ends c w x bytes r e = record { value = gives c bytes; ends = ap (handsOut c) e; holds = (refl, stays c w r) }
 
 -- a page of the map is there, in ROM or RAM
 data-is : (mem : ZXMemory) (p : Page) → Holds (ourPage p) (length (mem .rom)) (length (mem .ram)) → pageData mem p ≡ done (pagePart (ourPage p) (mem .rom) (mem .ram))
@@ -107,7 +107,7 @@ module _ (m : ZXMachine) (rom : List ℕ) (c : ZXController) (w : World) (r : Re
   block-is block h =
       let p : Page = getD (c .memory .map) block (Rom 0) in
       let at = block-page (ourMachine m) rom ram last (c .memory) (r .memory) block in
-      ap (λ (x : Run Page). andThen x (λ q. pageData (c .memory) q)) (rw h at (bank-type-is (c .memory) block))
+      ap (λ (x : Run Page). onDone x (λ q. pageData (c .memory) q)) (rw h at (bank-type-is (c .memory) block))
       ∙ data-is (c .memory) p (rw (at, r .memory .rom, r .memory .ram, r .romLong, r .ramLong) (map-holds (ourMachine m) last block))
       ∙ ap done (rw (r .memory .rom, r .memory .ram, at))
 
@@ -144,7 +144,7 @@ module _ (m : ZXMachine) (rom : List ℕ) (c : ZXController) (w : World) (r : Re
       let e = read-follows m rom d port (a .0) c w r in
       record {
         value = gives (e .value .controller) (e .value .value ∷ []);
-        ends = ap (λ (x : Run rust.Answered). andThen x (λ y. done (gives (y .controller) (y .value ∷ [])))) (e .ends);
+        ends = ap (λ (x : Run rust.Answered). onDone x (λ y. done (gives (y .controller) (y .value ∷ [])))) (e .ends);
         holds = (ap (λ (v : ℕ). v ∷ []) (e .holds .0), to-ran m rom (portRead (ourMachine m) port) _ w (e .holds .1));
       }
   call-agrees (writeIo d port value) s a =
@@ -173,13 +173,13 @@ module _ (m : ZXMachine) (rom : List ℕ) (c : ZXController) (w : World) (r : Re
   call-agrees screenBuffer s a = record { value = gives c (c .screen .buffer); ends = refl; holds = (r .screen .shown, stays m rom c w r) }
   call-agrees borderBuffer s a = record { value = gives c (c .border .buffer); ends = refl; holds = (r .border .pixels, stays m rom c w r) }
 
-by-machine : (m : ours.ZXMachine) (w : World) → SoundWorld m w → (v : ℕ) → v < 256 → SoundWorld m (worldAfter m (repaged (paging.write7ffd m (w .core .paging) v)) w)
+by-machine : (m : ours.ZXMachine) (w : World) → SoundWorld m w → (v : ℕ) → v < 256 → SoundWorld m (worldAfter m (pagingOps (paging.write7ffd m (w .core .paging) v)) w)
 unfolding paging.write7ffd worldAfter clocksOf
 by-machine our.Sinclair48K w s v h = s
 by-machine our.Sinclair128K w s v h =
     let l = frame-long our.Sinclair128K in
     let k = s .clock in
-    by-bool (λ (p : Paged). SoundWorld our.Sinclair128K (worldAfter our.Sinclair128K (repaged p) w)) (bitSet 5 (w .core .paging)) (λ e. s)
+    by-bool (λ (p : Paged). SoundWorld our.Sinclair128K (worldAfter our.Sinclair128K (pagingOps p) w)) (bitSet 5 (w .core .paging)) (λ e. s)
     (λ e. op-kept our.Sinclair128K (silent (paged v)) w s (h, refl) (omega arith) (λ f. absurd (omega arith)))
 
 -- ---- soundness goes on, so that the next call is in the domain again
@@ -238,7 +238,7 @@ module _ (m : ours.ZXMachine) (w : World) (s : SoundWorld m w) where
 
 -- WHAT A TIMED CALL REPORTS of clocks, closing, blocks and interrupt is what the Rust's own state says: for the Rust before the call, and any
 -- state of it that is related to what the call leaves.
-pub reports-agree : (m : ZXMachine) (rom : List ℕ) (f : Part) → Timed (ourMachine m) f → (c c′ : ZXController) (w : World) → SoundWorld (ourMachine m) w
+pub reports-agree : (m : ZXMachine) (rom : List ℕ) (f : Part) → TimedPart (ourMachine m) f → (c c′ : ZXController) (w : World) → SoundWorld (ourMachine m) w
     → Related m rom c w → Related m rom c′ (ranBy f (fresh (ourMachine m) w) .world)
     → TimedByRust c c′ (ranBy f (fresh (ourMachine m) w) .clocks) (ranBy f (fresh (ourMachine m) w) .blocks) (ranBy f (fresh (ourMachine m) w) .closed) (interrupt (ranBy f (fresh (ourMachine m) w) .world .core .clock))
 reports-agree m rom f t c c′ w s r r′ =
@@ -269,8 +269,8 @@ calls-agree m rom (k ∷ ks) c w r s a =
     record {
       value = record { controller = rest .value .controller; answers = one .value .answer ∷ rest .value .answers };
       ends =
-          ap (λ (x : Run Given). andThen x (λ g. andThen (allPerformed ks (g .controller)) (λ s. done (record { controller = s .controller; answers = g .answer ∷ s .answers })))) (one .ends)
-          ∙ ap (λ (x : Run Seen). andThen x (λ s. done (record { controller = s .controller; answers = one .value .answer ∷ s .answers }))) (rest .ends);
+          ap (λ (x : Run Given). onDone x (λ g. onDone (allPerformed ks (g .controller)) (λ s. done (record { controller = s .controller; answers = g .answer ∷ s .answers })))) (one .ends)
+          ∙ ap (λ (x : Run Seen). onDone x (λ s. done (record { controller = s .controller; answers = one .value .answer ∷ s .answers }))) (rest .ends);
       holds = (ap₂ (λ (x : List ℕ) (y : List (List ℕ)). x ∷ y) (one .holds .0) (rest .holds .0), rest .holds .1);
     }
 

@@ -132,7 +132,7 @@ module _ (m : ZXMachine) (rom : List ℕ) where
       let r′ : Related m rom held′ w′ = before-follows port c w r in
       record {
         value = record { controller = waitInternal 1 held′; value = answered (ourMachine m) (readOrder d port) (w′ .core) };
-        ends = ap (λ (x : Run ℕ). run.andThen x (λ value. done (record { controller = waitInternal 1 held′; value = value })))
+        ends = ap (λ (x : Run ℕ). run.onDone x (λ value. done (record { controller = waitInternal 1 held′; value = value })))
             (order-is m held′ (w′ .core) (floating-is m rom held′ w′ r′) d port h);
         holds = (
           ap (answered (ourMachine m) (readOrder d port)) (world-core (ourMachine m) (readBefore (ourMachine m) port (w .core)) w),
@@ -153,13 +153,13 @@ module _ (m : ZXMachine) (rom : List ℕ) where
 
   -- the border: from_bits of three bits never panics
   border-hears : (v : ℕ) (c : ZXController) (w : World) → Related m rom c w
-      → Hears (hearer.border ∷ []) v w (run.andThen (fromBits (bitAnd v 0x07)) (λ color. done (reaches toBorder (setBorderColor (c .frameClocks) color c))))
+      → Hears (hearer.border ∷ []) v w (run.onDone (fromBits (bitAnd v 0x07)) (λ color. done (reaches toBorder (setBorderColor (c .frameClocks) color c))))
   unfolding worldAfter
   border-hears v c w r =
       let h : v % 8 < 8 = omega arith in
       record {
         value = reaches toBorder (setBorderColor (c .frameClocks) (rustColor (colourOf (v % 8))) c);
-        ends = ap (λ (x : Run ZXColor). run.andThen x (λ color. done (reaches toBorder (setBorderColor (c .frameClocks) color c)))) (ap fromBits (and-mask v 3) ∙ from-bits-done (v % 8) h);
+        ends = ap (λ (x : Run ZXColor). run.onDone x (λ color. done (reaches toBorder (setBorderColor (c .frameClocks) color c)))) (ap fromBits (and-mask v 3) ∙ from-bits-done (v % 8) h);
         holds = (refl, colour-related m rom c w (rustColor (colourOf (v % 8))) (v % 8) (color-back (v % 8) h) r);
       }
 
@@ -217,7 +217,7 @@ module _ (m : ZXMachine) (rom : List ℕ) where
       let end = then-follows (lastPart (ourMachine m) port) finalStep (ioContentionLast port) (waitInternal 1) (last-follows port) (plain-follows 1) (a .value .controller) w₂ (a .holds .1) in
       record {
         value = reaches (a .value .reached) (waitInternal 1 (ioContentionLast port (a .value .controller)));
-        ends = ap (λ (x : Run Wrote). run.andThen x (λ acted. done (reaches (acted .reached) (waitInternal 1 (ioContentionLast port (acted .controller)))))) (a .ends);
+        ends = ap (λ (x : Run Wrote). run.onDone x (λ acted. done (reaches (acted .reached) (waitInternal 1 (ioContentionLast port (acted .controller)))))) (a .ends);
         holds = (
           a .holds .0 ∙ ap (λ (x : Core). heardCode (hearers (ourMachine m) d port) (pagedCode (write7ffd (ourMachine m) (x .paging) v))) (world-core (ourMachine m) (firstPart (ourMachine m) port (w .core)) w),
           subst (Related m rom (waitInternal 1 (ioContentionLast port (a .value .controller))))

@@ -22,9 +22,9 @@ use Rattle.memory.proofs.Places.{map-holds, exists-fits}
 use Rattle.memory.proofs.Stored.{loaded-cut}
 use Rattle.bus.specs.World.{Core, Screen, World}
 use Rattle.bus.specs.Time.{store, paged, silent, inCore, inScreen, inEdge, does, worldAfter}
-use Rattle.bus.specs.Calls.{repaged, pagingWrite}
+use Rattle.bus.specs.Calls.{pagingOps, pagingWrite}
 use Rattle.rustzx.specs.Machine.{ZXMachine, Sinclair48K, Sinclair128K}
-use Rattle.rustzx.specs.Panics.{Run, done, Option, some, none, andThen, each, Ends}
+use Rattle.rustzx.specs.Panics.{Run, done, Option, some, none, onDone, each, Ends}
 use Rattle.rustzx.specs.Memory.{Page, Rom, Ram, ZXMemory, getPage, write, loadPage}
 use Rattle.rustzx.specs.Screen.{ScreenBank, ZXScreen, localBank, withActive, switchTo, switchBank, withBank, updateIn, update}
 use Rattle.rustzx.specs.Controller.{ZXController, withMemory, withPaging, toPaging, Wrote, reaches, newScreenBank, remapped, stillEnabled, write7ffd, updated, writeInternal, refreshByte, refreshPage, refreshed, loadAndRefresh}
@@ -48,7 +48,7 @@ unfolding write7ffd
 opened v c mem e f =
     let next : ZXMemory → Run Wrote =
     λ x. done (reaches (toPaging true) (withPaging x (switchBank (c .machine) (newScreenBank v) (c .screen)) (stillEnabled v (c .pagingEnabled)) (newScreenBank v) v c)) in
-    ap (λ (t : Bool). cond (not t) (done (reaches (toPaging false) c)) (andThen (remapped v (c .memory)) next)) e ∙ ap (λ (r : Run ZXMemory). andThen r next) f
+    ap (λ (t : Bool). cond (not t) (done (reaches (toPaging false) c)) (onDone (remapped v (c .memory)) next)) e ∙ ap (λ (r : Run ZXMemory). onDone r next) f
 
 turned : {A : Type 0} (t : Bool) (x y : A) → cond (not t) x y ≡ cond t y x
 turned true x y = refl
@@ -122,7 +122,7 @@ pub paging-related : (m : ZXMachine) (rom : List ℕ) (c : ZXController) (w : Wo
 unfolding paging.write7ffd worldAfter
 paging-related Sinclair48K rom c w v r = record { value = reaches (toPaging false) c; ends = locked v c (r .enabled); holds = (refl, r) }
 paging-related Sinclair128K rom c w v r =
-    by-bool (λ (p : Paged). Ends (write7ffd v c) (λ x. (reachedCode (x .reached) ≡ pagedCode p) × Related Sinclair128K rom (x .controller) (worldAfter (ourMachine Sinclair128K) (repaged p) w))) (bitSet 5 (w .core .paging))
+    by-bool (λ (p : Paged). Ends (write7ffd v c) (λ x. (reachedCode (x .reached) ≡ pagedCode p) × Related Sinclair128K rom (x .controller) (worldAfter (ourMachine Sinclair128K) (pagingOps p) w))) (bitSet 5 (w .core .paging))
     (λ e. record { value = reaches (toPaging false) c; ends = locked v c (r .enabled ∙ ap not e); holds = (refl, r) }) (λ e. taken rom c w v r e)
 
 -- ---- one byte of RAM, seen by page
@@ -229,8 +229,8 @@ module _ (m : ZXMachine) (rom : List ℕ) (c : ZXController) (w : World) (addr v
       let fits : 16384 * p + 16384 ≤ length (w .core .ram) = omega (arith, r .ramLong, rw (sym e) at (map-holds (ourMachine m) (w .core .paging) (addr / 16384))) in
       record {
         value = withMemory (write (c .memory) addr v) (bankPut (localBank m p) rel v (c .screen)) c;
-        ends = ap (λ (n : ZXMachine). andThen (update n rel p v (c .screen)) (λ s. done (withMemory (write (c .memory) addr v) s c))) (r .machine)
-            ∙ ap (λ (x : Run ZXScreen). andThen x (λ s. done (withMemory (write (c .memory) addr v) s c))) (update-any (localBank m p) rel v (c .screen));
+        ends = ap (λ (n : ZXMachine). onDone (update n rel p v (c .screen)) (λ s. done (withMemory (write (c .memory) addr v) s c))) (r .machine)
+            ∙ ap (λ (x : Run ZXScreen). onDone x (λ s. done (withMemory (write (c .memory) addr v) s c))) (update-any (localBank m p) rel v (c .screen));
         holds = record {
           machine = r .machine;
           memory = written-to (page.Ram p) e;
@@ -299,7 +299,7 @@ module _ (m : ZXMachine) (bank b : ℕ) (bytes : List ℕ) (s : ZXScreen) (local
 refresh-page : (m : ZXMachine) (bank b : ℕ) (mem : ZXMemory) (s : ZXScreen) → length (mem .ram) ≡ specsOf (ourMachine m) .ram → pageExists (ourMachine m) bank ≡ true
     → localBank m bank ≡ some b → refreshPage m bank mem (done s) ≡ done (withBank b (putAll (ramPage bank (mem .ram)) 16384) s)
 refresh-page m bank b mem s long there local =
-    ap (λ (r : Run (List ℕ)). andThen r (λ bytes. each 0 16384 (refreshByte m bank bytes) (done s))) (rw there at (page-data-is m mem long bank))
+    ap (λ (r : Run (List ℕ)). onDone r (λ bytes. each 0 16384 (refreshByte m bank bytes) (done s))) (rw there at (page-data-is m mem long bank))
     ∙ refresh-loop m bank b (ramPage bank (mem .ram)) s local 16384
 
 -- a bank mirrors a page of the RAM as it stands
@@ -342,10 +342,10 @@ load-related m rom c w p bytes r there whole =
     record {
       value = withMemory mem (f .value) c;
       ends =
-          ap (λ (x : Run ZXMemory). andThen x (λ mem. andThen (refreshed (c .machine) mem (c .screen)) (λ s. done (withMemory mem s c))))
+          ap (λ (x : Run ZXMemory). onDone x (λ mem. onDone (refreshed (c .machine) mem (c .screen)) (λ s. done (withMemory mem s c))))
           (rw there at (load-is m (c .memory) (ap length (r .memory .ram) ∙ r .ramLong) p bytes))
-          ∙ ap (λ (n : ZXMachine). andThen (refreshed n mem (c .screen)) (λ s. done (withMemory mem s c))) (r .machine)
-          ∙ ap (λ (x : Run ZXScreen). andThen x (λ s. done (withMemory mem s c))) (f .ends);
+          ∙ ap (λ (n : ZXMachine). onDone (refreshed n mem (c .screen)) (λ s. done (withMemory mem s c))) (r .machine)
+          ∙ ap (λ (x : Run ZXScreen). onDone x (λ s. done (withMemory mem s c))) (f .ends);
       holds = record {
         machine = r .machine;
         memory = record { rom = r .memory .rom; ram = same; pages = r .memory .pages };

@@ -15,7 +15,7 @@ use Rattle.machine.specs.declared.BorderPlace.the-variants.{At, FrameEnd}
 use Rattle.machine.specs.declared.BlocksCount as ours
 use Rattle.machine.specs.declared.ZXSpecs as table
 use Rattle.machine.specs.Numbers.{specsOf}
-use Rattle.machine.specs.Timing.{pattern, held, delay, blocksIn, blocksFrom, blocksAt, borderIn, borderFrom, borderAt, interrupt}
+use Rattle.machine.specs.Timing.{pattern, delayInLine, delay, blocksCapped, blocksFrom, blocksAt, borderCapped, borderFrom, borderAt, interrupt}
 use Rattle.machine.specs.Contended.{bankContended, portContended}
 use Rattle.rustzx.specs.Machine.{ZXSpecs, ZXMachine, Sinclair48K, Sinclair128K, specs, contentionClocks, portIsContended, bankIsContended}
 use Rattle.rustzx.specs.Screen.{BlocksCount, inCanvas, inLine, fromClocks}
@@ -50,7 +50,7 @@ or-cond false b x y = refl
 
 delay-by : (o : table.ZXSpecs) (t first lines line row : ℕ) (delays : List ℕ) → first ≡ o .contention → lines ≡ 192 → line ≡ o .line → row ≡ 128 → delays ≡ pattern
     → cond (ltb t first || leb (first + lines * line) t) 0 (cond (leb row ((t - first) % line)) 0 (getD delays ((t - first) % line % 8) 0)) ≡ delay o t
-unfolding delay held
+unfolding delay delayInLine
 delay-by o t first lines line row delays p q r s u = rw (p, q, r, s, u) (or-cond (ltb t (o .contention)) (leb (o .contention + 192 * o .line) t) 0 _)
 
 -- contention_clocks is the delay.
@@ -70,8 +70,8 @@ pick-blocks : (t : Bool) {x y : BlocksCount} {u v : ours.BlocksCount} → SameBl
 pick-blocks true p q = p
 pick-blocks false p q = q
 
-in-canvas : (line column : ℕ) → SameBlocks (inCanvas line column) (blocksIn line column)
-unfolding blocksIn
+in-canvas : (line column : ℕ) → SameBlocks (inCanvas line column) (blocksCapped line column)
+unfolding blocksCapped
 in-canvas line column = pick-blocks (leb 192 line) (record { lines = refl; columns = refl }) (record { lines = refl; columns = refl })
 
 in-line : (line column : ℕ) → SameBlocks (inLine line column) (blocksFrom line column)
@@ -100,8 +100,8 @@ pick-next : (t : Bool) {x y : Next} (u v : BorderPlace) → x ≡ nextOf u → y
 pick-next true u v p q = p
 pick-next false u v p q = q
 
-in-height : (line pixel : ℕ) → inHeight line pixel ≡ nextOf (borderIn line pixel)
-unfolding borderIn
+in-height : (line pixel : ℕ) → inHeight line pixel ≡ nextOf (borderCapped line pixel)
+unfolding borderCapped
 in-height line pixel = pick-next (leb 240 line) FrameEnd (At line pixel) refl refl
 
 -- "pixel - 2 because we added 2": for an even pixel of at least 2, pixel - 2 >= 320 is pixel > 320
@@ -114,7 +114,7 @@ unfolding borderFrom
 in-width line r =
     let e : (r + 1) * 2 ≡ 2 * (r + 1) = omega arith in
     rw (width-test r (ltb 320 (2 * (r + 1))) refl, e)
-    (pick-next (ltb 320 (2 * (r + 1))) (borderIn (line + 1) 0) (borderIn line (2 * (r + 1))) (in-height (line + 1) 0) (in-height line (2 * (r + 1))))
+    (pick-next (ltb 320 (2 * (r + 1))) (borderCapped (line + 1) 0) (borderCapped line (2 * (r + 1))) (in-height (line + 1) 0) (in-height line (2 * (r + 1))))
 
 border-by : (o : table.ZXSpecs) (t origin line : ℕ) → origin ≡ o .border → line ≡ o .line
     → cond (ltb t origin) (record { line = 0; pixel = 0; frameEnd = false }) (inWidth ((t - origin) / line) (((t - origin) % line + 1) * 2)) ≡ nextOf (borderAt o t)

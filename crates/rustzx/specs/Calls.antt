@@ -17,7 +17,7 @@ use Rattle.bus.specs.World.{World}
 use Rattle.bus.specs.Time.{shownPicture}
 use Rattle.bus.specs.Turns.{Part, fresh, ranBy}
 use Rattle.bus.specs.Calls.{plainWait, addressWait, portRead, readValue, pagingWrite, portWrite, writeCode}
-use Rattle.rustzx.specs.Panics.{Run, done, andThen}
+use Rattle.rustzx.specs.Panics.{Run, done, onDone}
 use Rattle.rustzx.specs.Machine.{ZXMachine, specs}
 use Rattle.rustzx.specs.Memory.{ramPageData, blockData}
 use Rattle.rustzx.specs.Screen.{blockIndex}
@@ -71,19 +71,19 @@ abbrev pub gives : ZXController → List ℕ → Given
 gives c answer = record { controller = c; answer = answer }
 
 abbrev pub acted : Run ZXController → Run Given
-acted r = andThen r (λ c. done (gives c []))
+acted r = onDone r (λ c. done (gives c []))
 
 abbrev pub wrote : (Reached → ℕ) → Run Wrote → Run Given
-wrote code r = andThen r (λ w. done (gives (w .controller) (code (w .reached) ∷ [])))
+wrote code r = onDone r (λ w. done (gives (w .controller) (code (w .reached) ∷ [])))
 
-abbrev pub told : ZXController → Run (List ℕ) → Run Given
-told c r = andThen r (λ answer. done (gives c answer))
+abbrev pub handsOut : ZXController → Run (List ℕ) → Run Given
+handsOut c r = onDone r (λ answer. done (gives c answer))
 
 unfoldable pub performed : Call → ZXController → Run Given
 performed (waitInternal n) c = done (gives (rust.waitInternal n c) [])
 performed (waitMreq addr n) c = done (gives (rust.waitMreq addr n c) [])
 performed (waitNoMreq addr n) c = done (gives (rust.waitNoMreq addr n c) [])
-performed (readIo d port) c = andThen (rust.readIo (attachedOf d) port c) (λ a. done (gives (a .controller) (a .value ∷ [])))
+performed (readIo d port) c = onDone (rust.readIo (attachedOf d) port c) (λ a. done (gives (a .controller) (a .value ∷ [])))
 performed (writeIo d port value) c = wrote reachedCode (rust.writeIo (attachedOf d) port value c)
 performed (readInternal addr) c = done (gives c (rust.readInternal addr c ∷ []))
 performed (writeInternal addr value) c = acted (rust.writeInternal addr value c)
@@ -93,8 +93,8 @@ performed intActive c = done (gives c (cond (rust.intActive c) 1 0 ∷ []))
 performed framesCount c = done (gives c (c .passedFrames ∷ []))
 performed resetFrameCounter c = done (gives (rust.resetFrameCounter c) [])
 performed (loadPage page bytes) c = acted (rust.loadAndRefresh page bytes c)
-performed (ramPageOf page) c = told c (ramPageData (c .memory) page)
-performed (blockOf block) c = told c (blockData (c .memory) block)
+performed (ramPageOf page) c = handsOut c (ramPageData (c .memory) page)
+performed (blockOf block) c = handsOut c (blockData (c .memory) block)
 performed screenBuffer c = done (gives c (c .screen .buffer))
 performed borderBuffer c = done (gives c (c .border .buffer))
 
@@ -173,8 +173,8 @@ pub record Seen : Type 0 where
 unfoldable pub allPerformed : List Call → ZXController → Run Seen
 allPerformed [] c = done (record { controller = c; answers = [] })
 allPerformed (k ∷ ks) c =
-    andThen (performed k c) (λ g.
-    andThen (allPerformed ks (g .controller)) (λ s. done (record { controller = s .controller; answers = g .answer ∷ s .answers })))
+    onDone (performed k c) (λ g.
+    onDone (allPerformed ks (g .controller)) (λ s. done (record { controller = s .controller; answers = g .answer ∷ s .answers })))
 
 unfoldable pub allAnswers : ours.ZXMachine → List ℕ → List Call → World → List (List ℕ)
 allAnswers m rom [] w = []

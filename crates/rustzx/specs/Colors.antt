@@ -4,7 +4,7 @@ use Prim.Native.Nat.{ℕ, zero, suc, _/_}
 use mathlib.Core.Bool.{Bool, cond, not, _&&_, xor}
 use lib.Dec.{leb, eqb}
 use lib.Bits.{bitAnd}
-use Rattle.rustzx.specs.Panics.{Run, done, panics, andThen, assert}
+use Rattle.rustzx.specs.Panics.{Run, done, panics, onDone, assert}
 
 -- enum ZXColor, enum ZXBrightness, struct ZXAttribute
 pub data ZXColor : Type 0 where
@@ -61,8 +61,8 @@ brightnessByte Bright = 1
 -- fn from_byte
 unfoldable pub fromByte : ℕ → Run ZXAttribute
 fromByte value =
-    andThen (fromBits (bitAnd value 0x07)) (λ ink.
-    andThen (fromBits (bitAnd (value / 8) 0x07)) (λ paper.
+    onDone (fromBits (bitAnd value 0x07)) (λ ink.
+    onDone (fromBits (bitAnd (value / 8) 0x07)) (λ paper.
     done (record {
       ink = ink;
       paper = paper;

@@ -7,7 +7,7 @@ use mathlib.Core.List.{List}
 use lib.Dec.{ltb, leb, eqb}
 use lib.ListN.{getD}
 use lib.Bits.{bitAnd, bitXor}
-use Rattle.rustzx.specs.Panics.{Run, done, Option, some, none, andThen, each}
+use Rattle.rustzx.specs.Panics.{Run, done, Option, some, none, onDone, each}
 use Rattle.rustzx.specs.Machine.{ZXMachine, Sinclair48K, Sinclair128K, specs, contentionClocks, portIsContended, bankIsContended}
 use Rattle.rustzx.specs.Addresses.{canvasHeight, bitmapLineAddr}
 use Rattle.rustzx.specs.Colors.{ZXColor, Black, fromBits}
@@ -82,7 +82,7 @@ floatingColumn clocks = clocks / 8 * 2 + clocks % 8 / 2
 abbrev pub fetchFloating : ZXController → ℕ → ℕ → Run ℕ
 fetchFloating c row clocks =
     cond (eqb (clocks % 2) 0)
-    (andThen (bitmapLineAddr row) (λ addr. done (read (c .memory) (addr + floatingColumn clocks))))
+    (onDone (bitmapLineAddr row) (λ addr. done (read (c .memory) (addr + floatingColumn clocks))))
     (done (read (c .memory) (0x5800 + (row / 8 * 32 + floatingColumn clocks))))
 
 abbrev pub floatingAt : ZXController → ℕ → ℕ → Run ℕ
@@ -161,7 +161,7 @@ newScreenBank val = cond (eqb (bitAnd val 0x08) 0) 5 7
 
 -- the remaps of the top 16K of RAM and of the ROM, each of which panics where there is no such page
 abbrev pub remapped : ℕ → ZXMemory → Run ZXMemory
-remapped val mem = andThen (remap mem 3 (Ram (bitAnd val 0x07))) (λ top. remap top 0 (Rom (bitAnd (val / 16) 0x01)))
+remapped val mem = onDone (remap mem 3 (Ram (bitAnd val 0x07))) (λ top. remap top 0 (Rom (bitAnd (val / 16) 0x01)))
 
 -- check paging allow bit
 abbrev pub stillEnabled : ℕ → Bool → Bool
@@ -170,7 +170,7 @@ stillEnabled val enabled = cond (not (eqb (bitAnd val 0x20) 0)) false enabled
 unfoldable pub write7ffd : ℕ → ZXController → Run Wrote
 write7ffd val c =
     cond (not (c .pagingEnabled)) (done (reaches (toPaging false) c))
-    (andThen (remapped val (c .memory)) (λ mem.
+    (onDone (remapped val (c .memory)) (λ mem.
     done (reaches (toPaging true) (withPaging mem (switchBank (c .machine) (newScreenBank val) (c .screen)) (stillEnabled val (c .pagingEnabled)) (newScreenBank val) val c))))
 
 -- fn set_border_color
@@ -184,7 +184,7 @@ readInternal addr c = read (c .memory) addr
 abbrev pub updated : Page → ℕ → ℕ → ZXController → Run ZXController
 updated (Rom bank) addr value c = done (withMemory (write (c .memory) addr value) (c .screen) c)
 updated (Ram bank) addr value c =
-    andThen (update (c .machine) (addr % pageSize) bank value (c .screen)) (λ s. done (withMemory (write (c .memory) addr value) s c))
+    onDone (update (c .machine) (addr % pageSize) bank value (c .screen)) (λ s. done (withMemory (write (c .memory) addr value) s c))
 
 unfoldable pub writeInternal : ℕ → ℕ → ZXController → Run ZXController
 writeInternal addr value c = updated (getPage (write (c .memory) addr value) addr) addr value c
@@ -256,7 +256,7 @@ pub record Answered : Type 0 where
 unfoldable pub readIo : Attached → ℕ → ZXController → Run Answered
 readIo a port c =
     let held = ioContentionLast port (ioContentionFirst port c) in
-    andThen (extenderRead (a .ioExtender) a port held) (λ value. done (record { controller = waitInternal 1 held; value = value }))
+    onDone (extenderRead (a .ioExtender) a port held) (λ value. done (record { controller = waitInternal 1 held; value = value }))
 
 -- fn write_io
 abbrev pub is128K : ZXMachine → Bool
@@ -267,7 +267,7 @@ abbrev pub portWrite : ℕ → ℕ → ZXController → Run Wrote
 portWrite port byte c =
     cond (eqb (bitAnd port 0xC002) 0xC000) (done (reaches toAySelect c))
     (cond (eqb (bitAnd port 0xC002) 0x8000) (done (reaches toAyWrite c))
-    (cond (eqb (bitAnd port 0x0001) 0) (andThen (fromBits (bitAnd byte 0x07)) (λ color. done (reaches toBorder (setBorderColor (c .frameClocks) color c))))
+    (cond (eqb (bitAnd port 0x0001) 0) (onDone (fromBits (bitAnd byte 0x07)) (λ color. done (reaches toBorder (setBorderColor (c .frameClocks) color c))))
     (cond (eqb (bitAnd port 0x8002) 0 && is128K (c .machine)) (write7ffd byte c) (done (reaches toNobody c)))))
 
 abbrev pub extenderWrite : Option ℕ → ℕ → ℕ → ZXController → Run Wrote
@@ -276,7 +276,7 @@ extenderWrite none port byte c = portWrite port byte c
 
 unfoldable pub writeIo : Attached → ℕ → ℕ → ZXController → Run Wrote
 writeIo a port byte c =
-    andThen (extenderWrite (a .ioExtender) port byte (ioContentionFirst port c))
+    onDone (extenderWrite (a .ioExtender) port byte (ioContentionFirst port c))
     (λ acted. done (reaches (acted .reached) (waitInternal 1 (ioContentionLast port (acted .controller)))))
 
 -- fn int_active
@@ -289,10 +289,10 @@ resetFrameCounter c = withTime (c .screen) (c .border) (c .frameClocks) 0 c
 
 -- fn refresh_memory_dependent_devices: every byte of the video pages is updated
 abbrev pub refreshByte : ZXMachine → ℕ → List ℕ → ℕ → Run ZXScreen → Run ZXScreen
-refreshByte m bank bytes idx s = andThen s (λ s. update m idx bank (getD bytes idx 0) s)
+refreshByte m bank bytes idx s = onDone s (λ s. update m idx bank (getD bytes idx 0) s)
 
 abbrev pub refreshPage : ZXMachine → ℕ → ZXMemory → Run ZXScreen → Run ZXScreen
-refreshPage m bank mem s = andThen (ramPageData mem bank) (λ bytes. each 0 16384 (refreshByte m bank bytes) s)
+refreshPage m bank mem s = onDone (ramPageData mem bank) (λ bytes. each 0 16384 (refreshByte m bank bytes) s)
 
 abbrev pub refreshed : ZXMachine → ZXMemory → ZXScreen → Run ZXScreen
 refreshed Sinclair48K mem s = refreshPage Sinclair48K 0 mem (done s)
@@ -301,4 +301,4 @@ refreshed Sinclair128K mem s = refreshPage Sinclair128K 7 mem (refreshPage Sincl
 -- a page load, and the refresh that follows it
 unfoldable pub loadAndRefresh : ℕ → List ℕ → ZXController → Run ZXController
 loadAndRefresh page bytes c =
-    andThen (loadPage (c .memory) page bytes) (λ mem. andThen (refreshed (c .machine) mem (c .screen)) (λ s. done (withMemory mem s c)))
+    onDone (loadPage (c .memory) page bytes) (λ mem. onDone (refreshed (c .machine) mem (c .screen)) (λ s. done (withMemory mem s c)))

@@ -5,7 +5,7 @@ use mathlib.Core.Bool.{cond}
 use mathlib.Core.List.{List, [], _∷_, _++_}
 use lib.Dec.{ltb}
 use lib.ListN.{length, getD, set, take, drop, replicate}
-use Rattle.rustzx.specs.Panics.{Run, done, panics, assert, andThen}
+use Rattle.rustzx.specs.Panics.{Run, done, panics, assert, onDone}
 use Rattle.rustzx.specs.Machine.{ZXMachine, Sinclair48K, Sinclair128K}
 
 abbrev pub pageSize : ℕ
@@ -81,4 +81,4 @@ pageData mem (Rom page) = romPageData mem page
 pageData mem (Ram page) = ramPageData mem page
 
 abbrev pub blockData : ZXMemory → ℕ → Run (List ℕ)
-blockData mem block = andThen (getBankType mem block) (λ page. pageData mem page)
+blockData mem block = onDone (getBankType mem block) (λ page. pageData mem page)

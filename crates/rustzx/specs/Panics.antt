@@ -14,9 +14,9 @@ pub data Option (A : Type 0) : Type 0 where
   none : Option A
 
 -- one statement and then the next
-abbrev pub andThen : {A B : Type 0} → Run A → (A → Run B) → Run B
-andThen (done a) f = f a
-andThen panics f = panics
+abbrev pub onDone : {A B : Type 0} → Run A → (A → Run B) → Run B
+onDone (done a) f = f a
+onDone panics f = panics
 
 -- assert!(test)
 abbrev pub assert : {A : Type 0} → Bool → Run A → Run A

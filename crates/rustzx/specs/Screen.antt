@@ -7,7 +7,7 @@ use mathlib.Core.List.{List}
 use lib.Dec.{ltb, leb, eqb}
 use lib.ListN.{getD, set, replicate}
 use lib.Bits.{bitAnd}
-use Rattle.rustzx.specs.Panics.{Run, done, Option, some, none, andThen, each}
+use Rattle.rustzx.specs.Panics.{Run, done, Option, some, none, onDone, each}
 use Rattle.rustzx.specs.Machine.{ZXMachine, Sinclair48K, Sinclair128K, specs}
 use Rattle.rustzx.specs.Addresses.{canvasHeight, attrCols, bitmapLineRel, bitmapColRel, attrRowRel, attrColRel}
 use Rattle.rustzx.specs.Colors.{ZXColor, Black, ZXBrightness, Normal, ZXAttribute, colorByte, brightnessByte, fromByte, activeColor}
@@ -171,11 +171,11 @@ putAttribute i a b = record { attributes = set (b .attributes) i a; bitmap = b .
 
 abbrev pub updateBitmap : ℕ → ℕ → ℕ → ZXScreen → Run ZXScreen
 updateBitmap bank rel byte s =
-    andThen (bitmapLineRel rel) (λ line. andThen (bitmapColRel rel) (λ col. done (withBank bank (putBitmap (line * attrCols + col) byte) s)))
+    onDone (bitmapLineRel rel) (λ line. onDone (bitmapColRel rel) (λ col. done (withBank bank (putBitmap (line * attrCols + col) byte) s)))
 
 abbrev pub updateAttribute : ℕ → ℕ → ℕ → ZXScreen → Run ZXScreen
 updateAttribute bank rel byte s =
-    andThen (attrRowRel rel) (λ row. andThen (attrColRel rel) (λ col. andThen (fromByte byte) (λ a.
+    onDone (attrRowRel rel) (λ row. onDone (attrColRel rel) (λ col. onDone (fromByte byte) (λ a.
     done (withBank bank (putAttribute (row * attrCols + col) a) s))))
 
 abbrev pub updateIn : Option ℕ → ℕ → ℕ → ZXScreen → Run ZXScreen

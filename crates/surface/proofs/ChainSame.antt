@@ -95,7 +95,7 @@ module _ (rom : List ℕ) (c : ZXController) (l : Lent) (s : SameLent rom c l) w
   ram-call ram g r =
       record { bus = bus; isHeld = here .isHeld; machine = ap ourMachine (r .machine) ∙ here .machine; related = own (c .machine) rom (g .controller) (lentWorld bus (withRam l ram)) r }
 
-  told-call : (x : Run (List ℕ)) (g : Given) → rustCalls.told c x ≡ done g → SameLent rom (g .controller) l
+  told-call : (x : Run (List ℕ)) (g : Given) → rustCalls.handsOut c x ≡ done g → SameLent rom (g .controller) l
   unfolding holder
   told-call (done bytes) g e = subst (λ (d : ZXController). SameLent rom d l) (ap (holder c) e) here
   told-call panics g e = subst (λ (d : ZXController). SameLent rom d l) (ap (holder c) e) here

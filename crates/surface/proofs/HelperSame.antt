@@ -22,7 +22,7 @@ use Rattle.bus.proofs.Kept.{SoundWorld}
 use Rattle.contracts.specs.Timed.{Lent, lentWorld}
 use Rattle.contracts.specs.Helpers as ulb
 use Rattle.contracts.specs.Helpers.{helperCall, colourHelped}
-use Rattle.rustzx.specs.Panics.{done, andThen}
+use Rattle.rustzx.specs.Panics.{done, onDone}
 use Rattle.rustzx.specs.Addresses as rust
 use Rattle.rustzx.specs.Colors.{fromBits, colorByte}
 use Rattle.rustzx.specs.Controller.{ZXController}
@@ -52,12 +52,12 @@ module _ (n : ℕ) (answer : List ℕ) (long : length answer ≡ 5) where
   pub attr-col-same : SameHelp (rust.attrColRel n) (ulb.attrColRel n answer)
   attr-col-same = rw (attr-col-is n) (helped-same (attributeColumn n) answer long)
 
-  by-coloured : (c : Coloured) → andThen (colouredRun c) (λ x. done (colorByte x)) ≡ asRun (colourHelped c)
+  by-coloured : (c : Coloured) → onDone (colouredRun c) (λ x. done (colorByte x)) ≡ asRun (colourHelped c)
   by-coloured (coloured.Colour c) = ap done (color-number c)
   by-coloured coloured.OutOfRange = refl
 
   -- from_bits, its colour by its number
-  pub from-bits-same : SameHelp (andThen (fromBits n) (λ x. done (colorByte x))) (ulb.colorFromBits n answer)
+  pub from-bits-same : SameHelp (onDone (fromBits n) (λ x. done (colorByte x))) (ulb.colorFromBits n answer)
   from-bits-same = rw (from-bits-is n, by-coloured (color.fromBits n)) (helped-same (colourHelped (color.fromBits n)) answer long)
 
 -- EVERY ACCEPTED CALL HAS A STATE OF THE RUST TO BE COMPARED WITH: the slices of any sound record, with RAM and ROM of the machine's lengths.

@@ -8,7 +8,7 @@ use Rattle.machine.specs.Timing.{interrupt}
 use Rattle.bus.specs.World.{World}
 use Rattle.bus.specs.Turns.{Part, fresh, ranBy}
 use Rattle.bus.proofs.Kept.{SoundWorld}
-use Rattle.bus.proofs.TimedCalls.{Timed}
+use Rattle.bus.proofs.TimedCalls.{TimedPart}
 use Rattle.rustzx.specs.Panics.{Ends}
 use Rattle.rustzx.specs.Machine.{ZXMachine}
 use Rattle.rustzx.specs.Controller.{ZXController}
@@ -30,9 +30,9 @@ module _ (m : ours.ZXMachine) (rom : List ℕ) (c : ZXController) (w : World) (i
       its (call-agrees (c .machine) rom c w r k)
 
   -- what a timed call reports
-  pub reports : (f : Part) (c′ : ZXController) → Timed m f → SoundWorld m w → Related (c .machine) rom c′ (ranBy f (fresh m w) .world)
+  pub reports : (f : Part) (c′ : ZXController) → TimedPart m f → SoundWorld m w → Related (c .machine) rom c′ (ranBy f (fresh m w) .world)
       → TimedByRust c c′ (ranBy f (fresh m w) .clocks) (ranBy f (fresh m w) .blocks) (ranBy f (fresh m w) .closed) (interrupt (ranBy f (fresh m w) .world .core .clock))
   reports f c′ =
-      subst (λ (n : ours.ZXMachine). Timed n f → SoundWorld n w → Related (c .machine) rom c′ (ranBy f (fresh n w) .world)
+      subst (λ (n : ours.ZXMachine). TimedPart n f → SoundWorld n w → Related (c .machine) rom c′ (ranBy f (fresh n w) .world)
       → TimedByRust c c′ (ranBy f (fresh n w) .clocks) (ranBy f (fresh n w) .blocks) (ranBy f (fresh n w) .closed) (interrupt (ranBy f (fresh n w) .world .core .clock)))
       its (λ t s r′. reports-agree (c .machine) rom f t c c′ w s r r′)

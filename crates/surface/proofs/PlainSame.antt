@@ -20,7 +20,7 @@ use Rattle.memory.specs.Memory.{placeOf, pokedIn, poked, peeked, loaded}
 use Rattle.bus.specs.World.{World, worldOf}
 use Rattle.bus.specs.Time.{inCore, inScreen, inEdge, worldAfter}
 use Rattle.bus.specs.Turns.{fresh}
-use Rattle.bus.specs.Calls.{repaged, pagingWrite}
+use Rattle.bus.specs.Calls.{pagingOps, pagingWrite}
 use Rattle.bus.proofs.Runs.{ran-world}
 use Rattle.bus.proofs.Kept.{SoundWorld}
 use Rattle.answers.specs.declared.Verdict.{Verdict}
@@ -156,7 +156,7 @@ module _ (bus : Bus) (ram a b border rom : List ℕ) (c : ZXController) (its : o
         same-move rust.resetFrameCounter (worldOf (withPassed 0 bus) ram a b border) (ready-state state bus e .sound) tt (ran-world (passedReset (w .core)) (fresh m w) ∙ reset-is),
       )
 
-  repaged-is : (p : Paged) → worldAfter m (repaged p) w ≡ worldOf (withPaging (pagingAfter p (bus .paging)) bus) ram a b border
+  repaged-is : (p : Paged) → worldAfter m (pagingOps p) w ≡ worldOf (withPaging (pagingAfter p (bus .paging)) bus) ram a b border
   unfolding worldAfter inCore inScreen inEdge
   repaged-is paging.Absent = refl
   repaged-is paging.Locked = refl

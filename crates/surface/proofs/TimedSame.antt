@@ -18,7 +18,7 @@ use Rattle.bus.specs.Turns.{Turn, Part, fresh, ranBy}
 use Rattle.bus.specs.Calls.{plainWait, addressWait, portRead, readValue, portWrite, writeCode}
 use Rattle.bus.proofs.Runs.{ran-machine}
 use Rattle.bus.proofs.Kept.{SoundWorld}
-use Rattle.bus.proofs.TimedCalls.{Timed, plain-timed, address-timed, read-timed, write-timed}
+use Rattle.bus.proofs.TimedCalls.{TimedPart, plain-timed, address-timed, read-timed, write-timed}
 use Rattle.answers.specs.declared.Verdict.{Verdict}
 use Rattle.answers.specs.declared.Verdict.the-variants.{Accepted}
 use Rattle.answers.proofs.Accepted.{ready-wait, ready-port}
@@ -41,7 +41,7 @@ module _ (l : Lent) (bus : Bus) (rom : List ℕ) (c : ZXController) (its : ourMa
 
   -- any timed call: what the definition of the C call says when it is accepted, beside the Rust's
   same-timed : (k : Call) (Valued : Given → ℕ → Type 0) (part : ZXMachine → Part) (value : ZXMachine → Core → ℕ) (answer : List ℕ) (v : Verdict) → v ≡ Accepted bus
-      → Timed m (part m) → partOf m k ≡ part m → SoundWorld m w → rust.Accepted m k w
+      → TimedPart m (part m) → partOf m k ≡ part m → SoundWorld m w → rust.Accepted m k w
       → ((g : Given) → g .answer ≡ answerOf m rom k w → Valued g (value m (w .core)))
       → SameTimed rom k Valued c (timedCall part value l answer v)
   unfolding timedCall

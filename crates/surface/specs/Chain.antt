@@ -15,7 +15,7 @@ use Rattle.answers.specs.Order.{Numbered}
 use Rattle.contracts.specs.Timed.{Lent, outcome}
 use Rattle.contracts.specs.Plain.{Told, told, stillPage}
 use Rattle.contracts.specs.Calls.{TimedCall, plain, mreq, noMreq, portIn, portOut, Helper, lineAddr, lineOf, columnOf, attrRowOf, attrColumnOf, colourBits, Question, byteRead, pagingRead, interruptAsked, framesAsked, pageAsked, blockAsked, shownAsked, stillAsked, help, Call, startAgain, takeTime, writeByte, writePaging, resetPassed, loadRam, ask, Result, result, causesOf, refusedFilled, lentOf, Made, buffersAfter, Each}
-use Rattle.rustzx.specs.Panics.{Run, done, andThen}
+use Rattle.rustzx.specs.Panics.{Run, done, onDone}
 use Rattle.rustzx.specs.Controller.{ZXController}
 use Rattle.rustzx.specs.Calls as rust
 use Rattle.rustzx.specs.Calls.{Given, performed}
@@ -45,7 +45,7 @@ rustHelper lineOf n = address.bitmapLineRel n
 rustHelper columnOf n = address.bitmapColRel n
 rustHelper attrRowOf n = address.attrRowRel n
 rustHelper attrColumnOf n = address.attrColRel n
-rustHelper colourBits n = andThen (fromBits n) (λ x. done (colorByte x))
+rustHelper colourBits n = onDone (fromBits n) (λ x. done (colorByte x))
 
 -- the Rust's call ends, and its controller is then `next`
 pub record Ends (k : rust.Call) (c next : ZXController) : Type 0 where

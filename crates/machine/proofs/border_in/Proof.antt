@@ -1,15 +1,15 @@
 use borrow.Author.Needs.{needs}
 use borrow.Author.Tests.{lt-ltb, le-ltb, le-leb, lt-leb}
-use Rattle.machine.specs.Timing.{borderIn}
+use Rattle.machine.specs.Timing.{borderCapped}
 use Rattle.machine.proofs.border_in.Statement.{statement}
 use Rattle.machine.proofs.border_in.Tie as tie
 
 returns : tie.Need-returns
-unfolding borderIn
+unfolding borderCapped
 returns c = search (lt-ltb, le-ltb, le-leb, lt-leb, needs)
 
 returns-2 : tie.Need-returns-2
-unfolding borderIn
+unfolding borderCapped
 returns-2 c = search (lt-ltb, le-ltb, le-leb, lt-leb, needs)
 
 pub border-in-spec : {M : Type 1} → statement M
