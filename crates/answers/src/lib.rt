@@ -6,7 +6,7 @@ ghost use Prim.Native.Nat.{_<_};
 ghost use lib.ListN.{length, replicate};
 ghost use Rattle.record.specs.Record.{flagByte};
 ghost use Rattle.answers.specs.Refusals.{refusalNumber, judged, inTurn};
-ghost use Rattle.answers.specs.Judges.{ramFits, romFits, lentFit, judgeWait, judgePort, judgeState, judgeTold, judgeRead, judgeWrite, judgeLoad, judgeRamPage, judgeBlock, judgeShown, judgeStill, framesFull, badPage};
+ghost use Rattle.answers.specs.Judges.{numberFits, ramFits, romFits, lentFit, judgeWait, judgePort, judgeState, judgeTold, judgeRead, judgeWrite, judgeLoad, judgeRamPage, judgeBlock, judgeShown, judgeStill, framesFull, badPage};
 ghost use Rattle.answers.specs.Answers.{timedLength, timedAnswer, numberLength, numberAnswer, refusedAnswer};
 use record::Bus;
 use record::Held;
@@ -291,15 +291,15 @@ pub fn judge_load(state: &[u8], ram: usize, bytes: usize, page: u32) -> Verdict
     }
 }
 
-// Of the three that hand back a part, `fits` says that the answer has its length; a Rattle caller lends none, and says true.
-pub fn judge_ram_page(state: &[u8], ram: usize, page: u32, fits: bool) -> Verdict
-    ensures { λ r. ⌜ r ≡ judgeRamPage (now (state .entry)) ram page fits ⌝ }
+// Of the three that hand back a part a Rattle caller lends no answer, and gives the length that fits.
+pub fn judge_ram_page(state: &[u8], ram: usize, page: u32, answer: usize) -> Verdict
+    ensures { λ r. ⌜ r ≡ judgeRamPage (now (state .entry)) ram page (numberFits answer) ⌝ }
 {
     let v = judge_state(state);
     match v {
         Verdict::Refused(e) => Verdict::Refused(e),
         Verdict::Accepted(bus) => {
-            let fit = ram_fits(bus, ram) & fits;
+            let fit = ram_fits(bus, ram) & (answer == NUMBER_LENGTH);
             let missing = page_missing(bus, page);
             first_cause(
                 bus,
@@ -313,14 +313,14 @@ pub fn judge_ram_page(state: &[u8], ram: usize, page: u32, fits: bool) -> Verdic
     }
 }
 
-pub fn judge_block(state: &[u8], rom: usize, ram: usize, block: u32, fits: bool) -> Verdict
-    ensures { λ r. ⌜ r ≡ judgeBlock (now (state .entry)) rom ram block fits ⌝ }
+pub fn judge_block(state: &[u8], rom: usize, ram: usize, block: u32, answer: usize) -> Verdict
+    ensures { λ r. ⌜ r ≡ judgeBlock (now (state .entry)) rom ram block (numberFits answer) ⌝ }
 {
     let v = judge_state(state);
     match v {
         Verdict::Refused(e) => Verdict::Refused(e),
         Verdict::Accepted(bus) => {
-            let fit = rom_fits(bus, rom) & ram_fits(bus, ram) & fits;
+            let fit = rom_fits(bus, rom) & ram_fits(bus, ram) & (answer == NUMBER_LENGTH);
             first_cause(
                 bus,
                 Causes {
@@ -333,14 +333,16 @@ pub fn judge_block(state: &[u8], rom: usize, ram: usize, block: u32, fits: bool)
     }
 }
 
-pub fn judge_shown(state: &[u8], a: usize, b: usize, fits: bool) -> Verdict
-    ensures { λ r. ⌜ r ≡ judgeShown (now (state .entry)) a b fits ⌝ }
+pub fn judge_shown(state: &[u8], a: usize, b: usize, answer: usize) -> Verdict
+    ensures { λ r. ⌜ r ≡ judgeShown (now (state .entry)) a b (numberFits answer) ⌝ }
 {
     let v = judge_state(state);
     match v {
         Verdict::Refused(e) => Verdict::Refused(e),
         Verdict::Accepted(bus) => {
-            let fit = (a == machine::PICTURE_LENGTH) & (b == machine::PICTURE_LENGTH) & fits;
+            let fit = (a == machine::PICTURE_LENGTH)
+                & (b == machine::PICTURE_LENGTH)
+                & (answer == NUMBER_LENGTH);
             first_cause(
                 bus,
                 Causes {

@@ -48,8 +48,7 @@ pub extern "C" fn ulb_load_page(state: &[u8], ram: &mut [u8], src: &[u8], page: 
 pub extern "C" fn ulb_ram_page(state: &[u8], ram: &[u8], page: u32, answer: &mut [u8]) -> u8
     ensures { λ r. ⌜ told r (now (answer .exit)) ≡ ramPageTold (now (state .entry)) (now (ram .entry)) page (now (answer .entry)) ⌝ }
 {
-    let fits = answer.len() == answers::NUMBER_LENGTH;
-    let v = answers::judge_ram_page(state, ram.len(), page, fits);
+    let v = answers::judge_ram_page(state, ram.len(), page, answer.len());
     match v {
         Verdict::Refused(e) => answers::refuse(answer, answers::NUMBER_LENGTH, e),
         Verdict::Accepted(bus) => {
@@ -72,8 +71,7 @@ pub extern "C" fn ulb_block(
 ) -> u8
     ensures { λ r. ⌜ told r (now (answer .exit)) ≡ blockTold (now (state .entry)) (now (rom .entry)) (now (ram .entry)) block (now (answer .entry)) ⌝ }
 {
-    let fits = answer.len() == answers::NUMBER_LENGTH;
-    let v = answers::judge_block(state, rom.len(), ram.len(), block, fits);
+    let v = answers::judge_block(state, rom.len(), ram.len(), block, answer.len());
     match v {
         Verdict::Refused(e) => answers::refuse(answer, answers::NUMBER_LENGTH, e),
         Verdict::Accepted(bus) => {
@@ -90,7 +88,7 @@ pub extern "C" fn ulb_block(
 pub fn ram_page<'a>(state: &[u8], ram: &'a [u8], page: u32) -> &'a [u8]
     ensures { λ r. ⌜ now r ≡ ramPagePart (now (state .entry)) (now (ram .entry)) page ⌝ }
 {
-    let v = answers::judge_ram_page(state, ram.len(), page, true);
+    let v = answers::judge_ram_page(state, ram.len(), page, answers::NUMBER_LENGTH);
     match v {
         Verdict::Refused(_) => &ram[..0],
         Verdict::Accepted(_) => memory::ram_page_data(ram, page),
@@ -101,7 +99,7 @@ pub fn ram_page<'a>(state: &[u8], ram: &'a [u8], page: u32) -> &'a [u8]
 pub fn block<'a>(state: &[u8], rom: &'a [u8], ram: &'a [u8], block: u32) -> &'a [u8]
     ensures { λ r. ⌜ now r ≡ blockPart (now (state .entry)) (now (rom .entry)) (now (ram .entry)) block ⌝ }
 {
-    let v = answers::judge_block(state, rom.len(), ram.len(), block, true);
+    let v = answers::judge_block(state, rom.len(), ram.len(), block, answers::NUMBER_LENGTH);
     match v {
         Verdict::Refused(_) => &rom[..0],
         Verdict::Accepted(bus) => {

@@ -13,8 +13,7 @@ use machine::ZXMachine;
 pub extern "C" fn ulb_shown_picture(state: &[u8], a: &[u8], b: &[u8], answer: &mut [u8]) -> u8
     ensures { λ r. ⌜ told r (now (answer .exit)) ≡ shownTold (now (state .entry)) (now (a .entry)) (now (b .entry)) (now (answer .entry)) ⌝ }
 {
-    let fits = answer.len() == answers::NUMBER_LENGTH;
-    let v = answers::judge_shown(state, a.len(), b.len(), fits);
+    let v = answers::judge_shown(state, a.len(), b.len(), answer.len());
     match v {
         Verdict::Refused(e) => answers::refuse(answer, answers::NUMBER_LENGTH, e),
         Verdict::Accepted(bus) => {
@@ -40,7 +39,7 @@ fn shown_start(phase: u8) -> u32
 pub fn shown_picture<'a>(state: &[u8], a: &'a [u8], b: &'a [u8]) -> &'a [u8]
     ensures { λ r. ⌜ now r ≡ shownPart (now (state .entry)) (now (a .entry)) (now (b .entry)) ⌝ }
 {
-    let v = answers::judge_shown(state, a.len(), b.len(), true);
+    let v = answers::judge_shown(state, a.len(), b.len(), answers::NUMBER_LENGTH);
     match v {
         Verdict::Refused(_) => &a[..0],
         Verdict::Accepted(bus) => { if bus.phase % 2 == 0 { a } else { b } }
