@@ -11,12 +11,13 @@ use Rattle.machine.specs.declared.ZXMachine.{ZXMachine}
 use Rattle.machine.specs.declared.BorderPlace.{BorderPlace}
 use Rattle.machine.specs.declared.BorderPlace.the-variants.{At, FrameEnd}
 use Rattle.machine.specs.Numbers.{specsOf}
+use Rattle.machine.specs.Limits.{pictureLength, borderLength}
 use Rattle.machine.specs.Timing.{borderAt}
 use Rattle.paint.proofs.Painting.{length-paint}
 use Rattle.border.specs.Edge.{Edge, inked, inkedAt, finished}
 use Rattle.border.proofs.Fills.{length-filled}
 use Rattle.memory.specs.Memory.{ramPage}
-use Rattle.bus.specs.World.{Core, Screen, World, clearRam, clearPicture, clearBorder, started}
+use Rattle.bus.specs.World.{Core, Screen, World, clearRam, clearPicture, clearBorder, started, Sized}
 use Rattle.bus.specs.Time.{Look, Silent, store, paged, unpass, lasts, Op, step, colour, silent, ramLeft, closes, lookAt, showsA, paintFrom, caughtUp, inCore, inScreen, inEdge, does, worldAfter}
 use Rattle.bus.specs.Turns.{fresh, Part, ranBy}
 use Rattle.bus.proofs.Runs.{ran-world}
@@ -88,19 +89,13 @@ module _ (m : ZXMachine) where
   pub call-lengths : (f : Part) (w : World) → SameLengths w (ranBy f (fresh m w) .world)
   call-lengths f w = subst (SameLengths w) (sym (ran-world (f (w .core)) (fresh m w))) (run-lengths (f (w .core)) w)
 
--- A start's memory has the lengths that document 01 states: the machine's RAM, two pictures of 49,152 bytes, a border of 76,800.
-pub record Whole (m : ZXMachine) (w : World) : Type 0 where
-  pub ram : length (w .core .ram) ≡ specsOf m .ram
-  pub a : length (w .screen .a) ≡ 49152
-  pub b : length (w .screen .b) ≡ 49152
-  pub pixels : length (w .edge .pixels) ≡ 76800
-
-pub started-whole : (m : ZXMachine) → Whole m (started m)
+-- A start's memory has the lengths that document 01 states.
+pub started-sized : (m : ZXMachine) → Sized m (started m)
 unfolding clearRam clearPicture clearBorder
-started-whole m =
+started-sized m =
     record {
       ram = length-replicate {A = ℕ} (specsOf m .ram) 0;
-      a = length-replicate {A = ℕ} 49152 0;
-      b = length-replicate {A = ℕ} 49152 0;
-      pixels = length-replicate {A = ℕ} 76800 0;
+      a = length-replicate {A = ℕ} pictureLength 0;
+      b = length-replicate {A = ℕ} pictureLength 0;
+      pixels = length-replicate {A = ℕ} borderLength 0;
     }

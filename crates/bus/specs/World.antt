@@ -4,9 +4,11 @@
 use Prim.Native.Nat.{ℕ}
 use mathlib.Core.Bool.{Bool}
 use mathlib.Core.List.{List}
-use lib.ListN.{replicate}
+use mathlib.Core.Path.{_≡_}
+use lib.ListN.{length, replicate}
 use Rattle.machine.specs.declared.ZXMachine.{ZXMachine}
 use Rattle.machine.specs.Numbers.{specsOf}
+use Rattle.machine.specs.Limits.{pictureLength, borderLength}
 use Rattle.record.specs.declared.Bus.{Bus}
 use Rattle.record.specs.Record.{startRecord}
 use Rattle.border.specs.Edge.{Edge}
@@ -62,10 +64,17 @@ unfoldable pub clearRam : ZXMachine → List ℕ
 clearRam m = replicate (specsOf m .ram) 0
 
 unfoldable pub clearPicture : List ℕ
-clearPicture = replicate 49152 0
+clearPicture = replicate pictureLength 0
 
 unfoldable pub clearBorder : List ℕ
-clearBorder = replicate 76800 0
+clearBorder = replicate borderLength 0
 
 abbrev pub started : ZXMachine → World
 started m = worldOf (startRecord m) (clearRam m) clearPicture clearPicture clearBorder
+
+-- the memory of a machine has the lengths that document 01 gives it
+pub record Sized (m : ZXMachine) (w : World) : Type 0 where
+  pub ram : length (w .core .ram) ≡ specsOf m .ram
+  pub a : length (w .screen .a) ≡ pictureLength
+  pub b : length (w .screen .b) ≡ pictureLength
+  pub pixels : length (w .edge .pixels) ≡ borderLength

@@ -26,14 +26,14 @@ use Rattle.memory.specs.Paging.{bitSet, write7ffd, pagingAfter, pageExists}
 use Rattle.memory.specs.Memory.{placeOf, pokedIn, poked, loaded}
 use Rattle.memory.proofs.Places.{exists-fits}
 use Rattle.ports.specs.Devices.{devicesOf}
-use Rattle.bus.specs.World.{Core, World, busOf, started}
+use Rattle.bus.specs.World.{Core, World, busOf, started, Sized}
 use Rattle.bus.specs.Time.{paged, unpass, Op, silent, inCore, inScreen, inEdge, worldAfter}
 use Rattle.bus.specs.Turns.{clocksOf, Part, ran, fresh, ranBy}
 use Rattle.bus.specs.Calls.{pagingOps}
 use Rattle.bus.specs.Pokes.{poking, pageLoad}
 use Rattle.bus.proofs.Runs.{clocksIn, blocksIn, closedIn, ran-is, ran-world, fresh-blocks}
 use Rattle.bus.proofs.TimedCalls.{TimedPart, plain-timed, address-timed, read-timed, write-timed}
-use Rattle.bus.proofs.Lengths.{SameLengths, lengths-kept, call-lengths, started-whole}
+use Rattle.bus.proofs.Lengths.{SameLengths, lengths-kept, call-lengths}
 use Rattle.bus.proofs.Kept.{SoundWorld, InRange, op-kept, call-kept}
 use Rattle.bus.proofs.Reports.{call-fits}
 use Rattle.answers.specs.declared.Verdict.{Verdict}
@@ -44,7 +44,7 @@ use Rattle.answers.specs.Order.{NoneHolds}
 use Rattle.answers.proofs.Order.{state-ordered, wait-ordered, port-ordered, told-ordered, write-ordered, load-ordered}
 use Rattle.contracts.specs.Timed.{Lent, lentBy, startFitsOf, startLeaves, start, Outcome, outcome, timedCall, timedEnd, judgeWaitOf, judgePortOf, waitInternal, waitAt, readIo, writeIo}
 use Rattle.contracts.specs.Plain.{change, repage, writeInternal, write7ffdCall, resetFrames, loadPage}
-use Rattle.contracts.specs.Calls.{TimedCall, plain, mreq, noMreq, portIn, portOut, Call, startAgain, takeTime, writeByte, writePaging, resetPassed, loadRam, ask, Result, withRam, withState, waited, partOf, valueOf, opsOf, replied, performed, timedCauses, causesOf, Typed, Sized, NotStarted}
+use Rattle.contracts.specs.Calls.{TimedCall, plain, mreq, noMreq, portIn, portOut, Call, startAgain, takeTime, writeByte, writePaging, resetPassed, loadRam, ask, Result, withRam, withState, waited, timedOps, timedValue, opsOf, replied, performed, timedCauses, causesOf, Typed, NotStarted}
 use Rattle.contracts.proofs.Wholes.{record-of}
 
 -- what operations keep of a world
@@ -68,7 +68,7 @@ takes Sinclair128K held v =
 pub sized-kept : (m : ZXMachine) (w w′ : World) → Sized m w → SameLengths w w′ → Sized m w′
 sized-kept m w w′ s h = record { ram = h .ram ∙ s .ram; a = h .a ∙ s .a; b = h .b ∙ s .b; pixels = h .pixels ∙ s .pixels }
 
--- WHAT AN ACCEPTED START LEAVES: the buffers of its machine as it begins, which is sound and has its lengths
+-- WHAT AN ACCEPTED START LEAVES: the buffers of its machine as it begins
 started-by : (wrong fits : Bool) (l new : Lent) → cond wrong (startLeaves 1 l) (cond fits (startLeaves 0 new) (startLeaves 2 l)) .code ≡ 0
     → cond wrong (startLeaves 1 l) (cond fits (startLeaves 0 new) (startLeaves 2 l)) .slices ≡ new
 started-by true fits l new z = absurd (omega arith)
@@ -78,9 +78,6 @@ started-by false false l new z = absurd (omega arith)
 pub start-left : (l : Lent) (machine : ℕ) → start l machine .code ≡ 0 → start l machine .slices ≡ lentBy (machineOf machine) (started (machineOf machine))
 unfolding start
 start-left l machine z = started-by (ltb 1 machine) (startFitsOf (machineOf machine) l) l (lentBy (machineOf machine) (started (machineOf machine))) z
-
-pub start-sized : (m : ZXMachine) → Sized m (started m)
-start-sized m = let s = started-whole m in record { ram = s .ram; a = s .a; b = s .b; pixels = s .pixels }
 
 module _ (m : ZXMachine) (w : World) (sound : SoundWorld m w) (sized : Sized m w) where
   abbrev l : Lent
@@ -92,7 +89,7 @@ module _ (m : ZXMachine) (w : World) (sound : SoundWorld m w) (sized : Sized m w
   -- ---- timed calls
   module _ (t : TimedCall) (answer : List ℕ) (h : NoneHolds (timedCauses t l answer)) where
     -- an accepted timed call is its operations
-    waited-is : waited t l answer ≡ timedEnd (ranBy (partOf t m) (fresh m w)) (valueOf t m (w .core))
+    waited-is : waited t l answer ≡ timedEnd (ranBy (timedOps t m) (fresh m w)) (timedValue t m (w .core))
     unfolding waited waitInternal waitAt readIo writeIo timedCall
     waited-is = by t h where
       wait : (k : ℕ) → NoneHolds (timedCauses (plain k) l answer) → judgeWaitOf l k answer ≡ Accepted (busOf m w)
@@ -101,17 +98,17 @@ module _ (m : ZXMachine) (w : World) (sound : SoundWorld m w) (sized : Sized m w
       port : (devices : List ℕ) → NoneHolds (timedCauses (portIn devices 0) l answer) → judgePortOf l devices answer ≡ Accepted (busOf m w)
       port devices h = port-ordered (l .state) devices (length (l .ram)) (length (l .a)) (length (l .b)) (length (l .border)) (length answer) .noneAccepts h ∙ ap Accepted here
 
-      by : (t : TimedCall) → NoneHolds (timedCauses t l answer) → waited t l answer ≡ timedEnd (ranBy (partOf t m) (fresh m w)) (valueOf t m (w .core))
-      by (plain k) h = ap (timedCall (partOf (plain k)) (valueOf (plain k)) l answer) (wait k h)
-      by (mreq addr k) h = ap (timedCall (partOf (mreq addr k)) (valueOf (mreq addr k)) l answer) (wait k h)
-      by (noMreq addr k) h = ap (timedCall (partOf (noMreq addr k)) (valueOf (noMreq addr k)) l answer) (wait k h)
-      by (portIn devices port′) h = ap (timedCall (partOf (portIn devices port′)) (valueOf (portIn devices port′)) l answer) (port devices h)
-      by (portOut devices port′ value) h = ap (timedCall (partOf (portOut devices port′ value)) (valueOf (portOut devices port′ value)) l answer) (port devices h)
+      by : (t : TimedCall) → NoneHolds (timedCauses t l answer) → waited t l answer ≡ timedEnd (ranBy (timedOps t m) (fresh m w)) (timedValue t m (w .core))
+      by (plain k) h = ap (timedCall (timedOps (plain k)) (timedValue (plain k)) l answer) (wait k h)
+      by (mreq addr k) h = ap (timedCall (timedOps (mreq addr k)) (timedValue (mreq addr k)) l answer) (wait k h)
+      by (noMreq addr k) h = ap (timedCall (timedOps (noMreq addr k)) (timedValue (noMreq addr k)) l answer) (wait k h)
+      by (portIn devices port′) h = ap (timedCall (timedOps (portIn devices port′)) (timedValue (portIn devices port′)) l answer) (port devices h)
+      by (portOut devices port′ value) h = ap (timedCall (timedOps (portOut devices port′ value)) (timedValue (portOut devices port′ value)) l answer) (port devices h)
 
     -- of operations of a timed call, within refusal 5's limit
-    part-timed : Typed (takeTime t answer) → TimedPart m (partOf t m)
+    part-timed : Typed (takeTime t answer) → TimedPart m (timedOps t m)
     part-timed typed = by t h typed where
-      by : (t : TimedCall) → NoneHolds (timedCauses t l answer) → Typed (takeTime t answer) → TimedPart m (partOf t m)
+      by : (t : TimedCall) → NoneHolds (timedCauses t l answer) → Typed (takeTime t answer) → TimedPart m (timedOps t m)
       by (plain k) h typed = plain-timed m k (omega (arith, ltb-false longestWait k (h .1 .1 .1 .0)))
       by (mreq addr k) h typed = address-timed m addr k (ltb-false longestWait k (h .1 .1 .1 .0))
       by (noMreq addr k) h typed = address-timed m addr k (ltb-false longestWait k (h .1 .1 .1 .0))
@@ -132,26 +129,26 @@ module _ (m : ZXMachine) (w : World) (sound : SoundWorld m w) (sized : Sized m w
       by (portOut devices port value) h = less (recordOf (l .state)) here (h .1 .1 .1 .1 .0)
 
     abbrev os : List Op
-    os = partOf t m (w .core)
+    os = timedOps t m (w .core)
 
     pub timed-kept : Typed (takeTime t answer) → Kept m os w
     timed-kept typed =
         let same = ran-world os (fresh m w) in
         let timed = part-timed typed in
         record {
-          sound = subst (SoundWorld m) same (call-kept m (partOf t m) timed w sound room-left);
-          lengths = subst (SameLengths w) same (call-lengths m (partOf t m) w);
+          sound = subst (SoundWorld m) same (call-kept m (timedOps t m) timed w sound room-left);
+          lengths = subst (SameLengths w) same (call-lengths m (timedOps t m) w);
           brief = timed .brief (w .core);
         }
 
     -- WHAT AN ACCEPTED TIMED CALL LEAVES: the world after its operations, and their report.
     pub timed-left : waited t l answer
         ≡ outcome 0 (lentBy m (worldAfter m os w))
-        (timedAnswer (valueOf t m (w .core)) (closedIn m os (w .core)) (interrupt (worldAfter m os w .core .clock)) (0 + clocksIn os) (0 + blocksIn m os w))
-    timed-left = waited-is ∙ ap (λ turn. timedEnd turn (valueOf t m (w .core))) (ran-is os (fresh m w))
+        (timedAnswer (timedValue t m (w .core)) (closedIn m os (w .core)) (interrupt (worldAfter m os w .core .clock)) (0 + clocksIn os) (0 + blocksIn m os w))
+    timed-left = waited-is ∙ ap (λ turn. timedEnd turn (timedValue t m (w .core))) (ran-is os (fresh m w))
 
     pub few-blocks : Typed (takeTime t answer) → blocksIn m os w ≤ 12288
-    few-blocks typed = rw (fresh-blocks os m w) at (call-fits m (partOf t m) (part-timed typed) w sound .1)
+    few-blocks typed = rw (fresh-blocks os m w) at (call-fits m (timedOps t m) (part-timed typed) w sound .1)
 
   -- ---- calls that take no time
   no-lengths : SameLengths w w

@@ -9,14 +9,14 @@ use borrow.Author.Tests.{not-false, eqb-true}
 use Rattle.laws.proofs.Conjunction.{each}
 use Rattle.machine.specs.declared.ZXMachine.{ZXMachine}
 use Rattle.record.specs.Record.{recordLength, recordOf}
-use Rattle.bus.specs.World.{World}
+use Rattle.bus.specs.World.{World, Sized}
 use Rattle.bus.specs.Time.{worldAfter}
 use Rattle.bus.proofs.Kept.{SoundWorld}
 use Rattle.answers.specs.Judges.{ramFits}
 use Rattle.answers.specs.Order.{NoneHolds}
 use Rattle.contracts.specs.Timed.{Lent, lentBy}
 use Rattle.contracts.specs.Plain.{Told, Changed, Repaged, writeInternal, write7ffdCall, resetFrames, loadPage}
-use Rattle.contracts.specs.Calls.{Call, startAgain, takeTime, writeByte, writePaging, resetPassed, loadRam, ask, Result, result, withRam, withState, opsOf, replied, performed, causesOf, refusedFilled, Typed, Portions, lentOf, handedBack, Sized, NotStarted}
+use Rattle.contracts.specs.Calls.{Call, startAgain, takeTime, writeByte, writePaging, resetPassed, loadRam, ask, Result, result, withRam, withState, opsOf, replied, performed, causesOf, refusedFilled, Typed, Portions, lentOf, handedBack, NotStarted}
 use Rattle.contracts.proofs.Calls.{call-numbered, call-refused}
 use Rattle.contracts.proofs.Lending.{untouched, ram-changed, state-changed, lent-whole, handed-whole}
 use Rattle.contracts.proofs.Wholes.{timed-whole, reply-whole, state-whole, bus-is, ram-long, ram-whole}

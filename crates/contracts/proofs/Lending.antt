@@ -10,10 +10,10 @@ use Rattle.laws.proofs.Cases.{split}
 use Rattle.machine.specs.declared.ZXMachine.{ZXMachine}
 use Rattle.machine.specs.Numbers.{specsOf}
 use Rattle.record.specs.Record.{recordBytes}
-use Rattle.bus.specs.World.{World, busOf}
+use Rattle.bus.specs.World.{World, busOf, Sized}
 use Rattle.bus.proofs.Lengths.{SameLengths}
 use Rattle.contracts.specs.Timed.{Lent, lentBy}
-use Rattle.contracts.specs.Calls.{withRam, withState, Portion, lend, handBack, Portions, lentOf, handedBack, Sized}
+use Rattle.contracts.specs.Calls.{withRam, withState, Portion, lend, handBack, Portions, lentOf, handedBack}
 
 -- two buffers of one length, of which the same is lent
 pub same-lent : (n : Portion) (xs ys : List ℕ) → length xs ≡ length ys → length (lend n xs) ≡ length (lend n ys)

@@ -8,11 +8,9 @@ use mathlib.Core.Path.{_≡_}
 use lib.Dec.{leb, ltb}
 use lib.ListN.{length, take, drop}
 use Rattle.machine.specs.declared.ZXMachine.{ZXMachine}
-use Rattle.machine.specs.Numbers.{specsOf}
-use Rattle.machine.specs.Limits.{pictureLength, borderLength}
 use Rattle.record.specs.Record.{machineOf}
 use Rattle.ports.specs.Devices.{devicesOf}
-use Rattle.bus.specs.World.{Core, World}
+use Rattle.bus.specs.World.{Core}
 use Rattle.bus.specs.Turns.{Part}
 use Rattle.bus.specs.Calls.{plainWait, addressWait, portRead, readValue, portWrite, writeCode, pagingWrite}
 use Rattle.bus.specs.Pokes.{byteWrite, pageLoad, passedReset}
@@ -93,24 +91,24 @@ waited (portIn devices port) l answer = readIo l devices port answer
 waited (portOut devices port value) l answer = writeIo l devices port value answer
 
 -- the operations of a timed call, and its value or code, as the core decides them
-abbrev pub partOf : TimedCall → ZXMachine → Part
-partOf (plain n) m = plainWait n
-partOf (mreq addr n) m = addressWait m addr n
-partOf (noMreq addr n) m = addressWait m addr n
-partOf (portIn devices port) m = portRead m port
-partOf (portOut devices port value) m = portWrite m (devicesOf devices) port value
+abbrev pub timedOps : TimedCall → ZXMachine → Part
+timedOps (plain n) m = plainWait n
+timedOps (mreq addr n) m = addressWait m addr n
+timedOps (noMreq addr n) m = addressWait m addr n
+timedOps (portIn devices port) m = portRead m port
+timedOps (portOut devices port value) m = portWrite m (devicesOf devices) port value
 
-abbrev pub valueOf : TimedCall → ZXMachine → Core → ℕ
-valueOf (plain n) m = noValue m
-valueOf (mreq addr n) m = noValue m
-valueOf (noMreq addr n) m = noValue m
-valueOf (portIn devices port) m = readValue m (devicesOf devices) port
-valueOf (portOut devices port value) m = writeCode m (devicesOf devices) port value
+abbrev pub timedValue : TimedCall → ZXMachine → Core → ℕ
+timedValue (plain n) m = noValue m
+timedValue (mreq addr n) m = noValue m
+timedValue (noMreq addr n) m = noValue m
+timedValue (portIn devices port) m = readValue m (devicesOf devices) port
+timedValue (portOut devices port value) m = writeCode m (devicesOf devices) port value
 
 -- the operations of an accepted call; a second start has none
 unfoldable pub opsOf : ZXMachine → Call → Part
 opsOf m (startAgain machine) c = []
-opsOf m (takeTime t answer) c = partOf t m c
+opsOf m (takeTime t answer) c = timedOps t m c
 opsOf m (writeByte addr value) c = byteWrite m addr value c
 opsOf m (writePaging value answer) c = pagingWrite m value c
 opsOf m resetPassed c = passedReset c
@@ -289,13 +287,6 @@ handedBack n l out =
       b = handBack (n .b) (l .b) (out .b);
       border = handBack (n .border) (l .border) (out .border);
     }
-
--- the memory of a machine has the lengths that document 01 gives it
-pub record Sized (m : ZXMachine) (w : World) : Type 0 where
-  pub ram : length (w .core .ram) ≡ specsOf m .ram
-  pub a : length (w .screen .a) ≡ pictureLength
-  pub b : length (w .screen .b) ≡ pictureLength
-  pub pixels : length (w .edge .pixels) ≡ borderLength
 
 -- ---- a call that was made: what of the buffers it was lent, and what it left
 pub record Made : Type 0 where

@@ -14,13 +14,13 @@ use Rattle.machine.specs.declared.ZXMachine.{ZXMachine}
 use Rattle.memory.specs.Paging.{write7ffd}
 use Rattle.memory.specs.Memory.{placeOf}
 use Rattle.ports.specs.Devices.{devicesOf}
-use Rattle.bus.specs.World.{Core, World}
+use Rattle.bus.specs.World.{Core, World, Sized}
 use Rattle.bus.specs.Time.{worldAfter}
 use Rattle.bus.specs.Turns.{Part}
 use Rattle.bus.proofs.Kept.{SoundWorld}
 use Rattle.contracts.specs.Timed.{Lent, lentBy}
 use Rattle.contracts.specs.Plain.{shownTold}
-use Rattle.contracts.specs.Calls.{plain, mreq, noMreq, portIn, portOut, Call, startAgain, takeTime, writeByte, writePaging, resetPassed, loadRam, ask, opsOf, performed, Typed, lentOf, Sized, Made, buffersAfter, Obeyed, Each, AllTyped, NotStarted, NoSecondStart}
+use Rattle.contracts.specs.Calls.{plain, mreq, noMreq, portIn, portOut, Call, startAgain, takeTime, writeByte, writePaging, resetPassed, loadRam, ask, opsOf, performed, Typed, lentOf, Made, buffersAfter, Obeyed, Each, AllTyped, NotStarted, NoSecondStart}
 use Rattle.history.specs.Log.{follow, drawn, newest, older, Ended}
 use Rattle.history.specs.Fresh.{Fresh}
 use Rattle.history.specs.Reports.{reportedClosed, Sums, counted, summed, PortTakes}

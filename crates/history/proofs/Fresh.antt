@@ -8,14 +8,13 @@ use native.Mathlib.Omega.{arith}
 use lib.ListN.{length, getD, drop, length-replicate, getD-replicate}
 use Rattle.machine.specs.declared.ZXMachine.{ZXMachine}
 use Rattle.machine.specs.Numbers.{specsOf}
-use Rattle.bus.specs.World.{World, clearRam, clearPicture, clearBorder, started}
+use Rattle.bus.specs.World.{World, clearRam, clearPicture, clearBorder, started, Sized}
 use Rattle.bus.specs.Time.{showsA}
 use Rattle.bus.proofs.Kept.{started-sound}
 use Rattle.history.specs.Log.{blank, drawn}
 use Rattle.history.specs.Fresh.{Fresh}
 use Rattle.history.specs.Demand.{paintedTo}
 use Rattle.history.proofs.Operations.{Inv}
-use Rattle.contracts.specs.Calls.{Sized}
 
 -- what is cleared, by its length and its pixels
 pub picture-size : length clearPicture ≡ 49152

@@ -16,7 +16,7 @@ use Rattle.record.specs.declared.Bus.{Bus}
 use Rattle.record.specs.Record.{recordOf, soundBytes, lastFrame, noRoom, HasRoom}
 use Rattle.record.proofs.Soundness.{facts-sound}
 use Rattle.record.proofs.Round.{sound-encode, sound-fits}
-use Rattle.bus.specs.World.{World, busOf}
+use Rattle.bus.specs.World.{World, busOf, Sized}
 use Rattle.bus.proofs.Kept.{SoundWorld}
 use Rattle.answers.specs.declared.Refusal.{Refusal}
 use Rattle.answers.specs.declared.Refusal.the-variants.{BadLength, Unsound}
@@ -25,7 +25,7 @@ use Rattle.answers.specs.Judges.{ramFits}
 use Rattle.answers.specs.Answers.{timedLength}
 use Rattle.answers.specs.Order.{NoneHolds, FirstHolds, recordCauses}
 use Rattle.contracts.specs.Timed.{Lent, lentBy}
-use Rattle.contracts.specs.Calls.{plain, mreq, noMreq, portIn, portOut, byteRead, pagingRead, interruptAsked, framesAsked, pageAsked, blockAsked, shownAsked, stillAsked, help, Call, startAgain, takeTime, writeByte, writePaging, resetPassed, loadRam, ask, performed, waitCausesOf, causesOf, Portions, lentOf, Sized}
+use Rattle.contracts.specs.Calls.{plain, mreq, noMreq, portIn, portOut, byteRead, pagingRead, interruptAsked, framesAsked, pageAsked, blockAsked, shownAsked, stillAsked, help, Call, startAgain, takeTime, writeByte, writePaging, resetPassed, loadRam, ask, performed, waitCausesOf, causesOf, Portions, lentOf}
 use Rattle.contracts.proofs.Calls.{call-numbered}
 use Rattle.contracts.proofs.Wholes.{record-of, state-whole}
 

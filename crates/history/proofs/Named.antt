@@ -13,7 +13,7 @@ use Rattle.record.specs.declared.Bus.{Bus}
 use Rattle.record.specs.Record.{recordOf, soundBytes}
 use Rattle.record.proofs.Soundness.{facts-sound}
 use Rattle.record.proofs.Round.{sound-encode, sound-fits}
-use Rattle.bus.specs.World.{World, busOf}
+use Rattle.bus.specs.World.{World, busOf, Sized}
 use Rattle.bus.specs.Time.{showsA, shownPicture}
 use Rattle.bus.proofs.Kept.{SoundWorld}
 use Rattle.answers.specs.declared.Verdict.{Verdict}
@@ -23,7 +23,7 @@ use Rattle.answers.specs.Order.{NoneHolds}
 use Rattle.answers.proofs.Order.{shown-ordered}
 use Rattle.contracts.specs.Timed.{Lent, lentBy}
 use Rattle.contracts.specs.Plain.{part, shownPart, shownTold}
-use Rattle.contracts.specs.Calls.{shownAsked, ask, replied, performed, questionCauses, Sized}
+use Rattle.contracts.specs.Calls.{shownAsked, ask, replied, performed, questionCauses}
 use Rattle.contracts.proofs.Calls.{call-numbered}
 use Rattle.contracts.proofs.Parts.{shown-found}
 use Rattle.contracts.proofs.Wholes.{record-of}

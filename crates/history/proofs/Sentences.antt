@@ -21,7 +21,7 @@ use Rattle.record.proofs.Soundness.{facts-sound}
 use Rattle.record.proofs.Round.{held-encode}
 use Rattle.paint.proofs.Painting.{paint-out}
 use Rattle.memory.specs.Memory.{ramPage}
-use Rattle.bus.specs.World.{World, busOf}
+use Rattle.bus.specs.World.{World, busOf, Sized}
 use Rattle.bus.specs.Time.{Stall, lasts, Op, step, tick, colour, silent, lookAt, showsA, shownPicture, hiddenPicture, caughtUp, closes, inCore, inScreen, inEdge, does, worldAfter}
 use Rattle.bus.specs.Turns.{closedBy}
 use Rattle.bus.proofs.OneStep.{core-goes, screen-closed, screen-goes, closes-at}
@@ -29,7 +29,7 @@ use Rattle.bus.proofs.Runs.{clocksIn, blocksIn}
 use Rattle.bus.proofs.Closing.{completed, closing-shows}
 use Rattle.answers.specs.Answers.{timedLength}
 use Rattle.contracts.specs.Timed.{Lent, lentBy}
-use Rattle.contracts.specs.Calls.{plain, takeTime, performed, Typed, lentOf, Sized, Made, Obeyed, Each, AllTyped, NotStarted, NoSecondStart}
+use Rattle.contracts.specs.Calls.{plain, takeTime, performed, Typed, lentOf, Made, Obeyed, Each, AllTyped, NotStarted, NoSecondStart}
 use Rattle.history.specs.Log.{Shot, Frame, Shows, AllShow, follow, film}
 use Rattle.history.specs.Fresh.{Fresh}
 use Rattle.history.specs.Reports.{reportedClosed}

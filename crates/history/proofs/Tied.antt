@@ -16,13 +16,13 @@ use Rattle.record.specs.Words.{byteAt, wordAt, longAt}
 use Rattle.memory.specs.Paging.{write7ffd}
 use Rattle.memory.specs.Memory.{placeOf}
 use Rattle.ports.specs.Devices.{devicesOf}
-use Rattle.bus.specs.World.{World}
+use Rattle.bus.specs.World.{World, Sized}
 use Rattle.bus.specs.Time.{Op, worldAfter}
 use Rattle.bus.proofs.Runs.{clocksIn, blocksIn}
 use Rattle.bus.proofs.PortClocks.{read-small, write-small}
 use Rattle.bus.proofs.Kept.{SoundWorld}
 use Rattle.contracts.specs.Timed.{Lent, lentBy, Outcome}
-use Rattle.contracts.specs.Calls.{TimedCall, plain, mreq, noMreq, portIn, portOut, Call, startAgain, takeTime, writeByte, writePaging, resetPassed, loadRam, ask, Result, waited, partOf, opsOf, performed, timedCauses, Typed, Portions, lentOf, handedBack, Sized, Made, buffersAfter, NotStarted}
+use Rattle.contracts.specs.Calls.{TimedCall, plain, mreq, noMreq, portIn, portOut, Call, startAgain, takeTime, writeByte, writePaging, resetPassed, loadRam, ask, Result, waited, timedOps, opsOf, performed, timedCauses, Typed, Portions, lentOf, handedBack, Made, buffersAfter, NotStarted}
 use Rattle.contracts.proofs.Calls.{call-numbered}
 use Rattle.contracts.proofs.Acts.{sized-kept, Kept, timed-kept, timed-left, few-blocks, Acted, acted}
 use Rattle.contracts.proofs.AsWhole.{as-whole, as-refused}
@@ -69,7 +69,7 @@ module _ (m : ZXMachine) (w : World) (sound : SoundWorld m w) (sized : Sized m w
   unfolding opsOf performed
   timed-reported t answer typed z =
       let h = call-numbered (takeTime t answer) l .zeroByNone z in
-      let os = partOf t m (w .core) in
+      let os = timedOps t m (w .core) in
       let brief = timed-kept m w sound sized t answer h typed .brief in
       let few = few-blocks m w sound sized t answer h typed in
       rw (timed-left m w sound sized t answer h)

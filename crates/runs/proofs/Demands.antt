@@ -17,7 +17,7 @@ use Rattle.history.proofs.Demand3.{demand3}
 use Rattle.surface.specs.Chain.{AllSame, OneRom}
 use Rattle.surface.proofs.ChainSame.{from-start}
 use Rattle.runs.specs.Run.{Run, Begins}
-use Rattle.runs.specs.Demands.{reportOf, Demands}
+use Rattle.runs.specs.Demands.{reportedOver, Demands}
 use Rattle.runs.proofs.Obeyed.{run-obeys, run-typed, run-begins}
 
 pub both-demands : (machine : ℕ) (before after : Lent) (cs : List Made) (rom : List ℕ) → Begins machine before after → Run cs after → NoSecondStart cs
@@ -33,5 +33,5 @@ both-demands machine before after cs rom begins run first its long =
       rust = s .0 .machine;
       named = s .0 .named;
       demand2 = subst (AllSame rom cs (withRom rom (new (s .0 .machine)))) (b .1) (s .1 cs (subst (Obeyed cs) (sym (b .1)) obeyed) typed first its);
-      demand3 = subst (λ (l : Lent). Demand3 m (started m) cs (history m (started m) cs) (reportOf cs l)) (sym whole) (demand3 m (started m) (started-fresh m) cs (subst (Obeyed cs) whole obeyed) typed first);
+      demand3 = subst (λ (l : Lent). Demand3 m (started m) cs (history m (started m) cs) (reportedOver cs l)) (sym whole) (demand3 m (started m) (started-fresh m) cs (subst (Obeyed cs) whole obeyed) typed first);
     }

@@ -22,7 +22,7 @@ use Rattle.answers.specs.declared.Verdict.{Verdict}
 use Rattle.answers.specs.declared.Verdict.the-variants.{Refused, Accepted}
 use Rattle.answers.specs.Order.{NoneHolds}
 use Rattle.contracts.specs.Timed.{Lent, lentWorld, lent, Outcome, outcome, timedCall, judgeWaitOf, judgePortOf, waitInternal, waitAt, readIo, writeIo}
-use Rattle.contracts.specs.Calls.{TimedCall, plain, mreq, noMreq, portIn, portOut, Helper, lineAddr, lineOf, columnOf, attrRowOf, attrColumnOf, colourBits, Question, byteRead, pagingRead, interruptAsked, framesAsked, pageAsked, blockAsked, shownAsked, stillAsked, help, Call, startAgain, takeTime, writeByte, writePaging, resetPassed, loadRam, ask, Result, waited, partOf, valueOf, helpedBy, replied, performed, timedCauses, TypedQuestion, Typed}
+use Rattle.contracts.specs.Calls.{TimedCall, plain, mreq, noMreq, portIn, portOut, Helper, lineAddr, lineOf, columnOf, attrRowOf, attrColumnOf, colourBits, Question, byteRead, pagingRead, interruptAsked, framesAsked, pageAsked, blockAsked, shownAsked, stillAsked, help, Call, startAgain, takeTime, writeByte, writePaging, resetPassed, loadRam, ask, Result, waited, timedOps, timedValue, helpedBy, replied, performed, timedCauses, TypedQuestion, Typed}
 use Rattle.contracts.specs.Helpers.{helperCall}
 use Rattle.contracts.proofs.Calls.{call-numbered, call-refused}
 use Rattle.runs.specs.Run.{slice, Where, HelperAdmits, Replies, Steps}
@@ -51,7 +51,7 @@ timed-ram f value l answer i (Accepted bus) =
     ap (λ (v : World). v .core .ram) (ran-world (f m (w .core)) (fresh m w)) ∙ ram-stays m (f m (w .core)) w (i m (w .core))
 
 -- whose operations are those of a timed call
-in-call : (t : TimedCall) (answer : List ℕ) (l : Lent) → Typed (takeTime t answer) → NoneHolds (timedCauses t l answer) → (m : ZXMachine) (c : Core) → AllInCall m (partOf t m c)
+in-call : (t : TimedCall) (answer : List ℕ) (l : Lent) → Typed (takeTime t answer) → NoneHolds (timedCauses t l answer) → (m : ZXMachine) (c : Core) → AllInCall m (timedOps t m c)
 in-call (plain n) answer l typed h m c = (tt, tt)
 in-call (mreq addr n) answer l typed h m c = address-timed m addr n (ltb-false longestWait n (h .1 .1 .1 .0)) .inCall c
 in-call (noMreq addr n) answer l typed h m c = address-timed m addr n (ltb-false longestWait n (h .1 .1 .1 .0)) .inCall c
@@ -66,12 +66,12 @@ waited-ram t answer l typed true e =
     let i = in-call t answer l typed (call-numbered (takeTime t answer) l .zeroByNone (eqb-true (waited t l answer .code) 0 e)) in
     by t i
   where
-    by : (t : TimedCall) → ((m : ZXMachine) (c : Core) → AllInCall m (partOf t m c)) → waited t l answer .slices .ram ≡ l .ram
-    by (plain n) i = timed-ram (partOf (plain n)) (valueOf (plain n)) l answer i (judgeWaitOf l n answer)
-    by (mreq addr n) i = timed-ram (partOf (mreq addr n)) (valueOf (mreq addr n)) l answer i (judgeWaitOf l n answer)
-    by (noMreq addr n) i = timed-ram (partOf (noMreq addr n)) (valueOf (noMreq addr n)) l answer i (judgeWaitOf l n answer)
-    by (portIn devices port) i = timed-ram (partOf (portIn devices port)) (valueOf (portIn devices port)) l answer i (judgePortOf l devices answer)
-    by (portOut devices port value) i = timed-ram (partOf (portOut devices port value)) (valueOf (portOut devices port value)) l answer i (judgePortOf l devices answer)
+    by : (t : TimedCall) → ((m : ZXMachine) (c : Core) → AllInCall m (timedOps t m c)) → waited t l answer .slices .ram ≡ l .ram
+    by (plain n) i = timed-ram (timedOps (plain n)) (timedValue (plain n)) l answer i (judgeWaitOf l n answer)
+    by (mreq addr n) i = timed-ram (timedOps (mreq addr n)) (timedValue (mreq addr n)) l answer i (judgeWaitOf l n answer)
+    by (noMreq addr n) i = timed-ram (timedOps (noMreq addr n)) (timedValue (noMreq addr n)) l answer i (judgeWaitOf l n answer)
+    by (portIn devices port) i = timed-ram (timedOps (portIn devices port)) (timedValue (portIn devices port)) l answer i (judgePortOf l devices answer)
+    by (portOut devices port value) i = timed-ram (timedOps (portOut devices port value)) (timedValue (portOut devices port value)) l answer i (judgePortOf l devices answer)
 
 -- ---- lengths that memory can have
 abbrev pub Roomy : List ℕ → Type 0

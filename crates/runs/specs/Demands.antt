@@ -15,8 +15,8 @@ use Rattle.history.specs.Demand.{history, Demand3}
 use Rattle.surface.specs.Chain.{AllSame}
 
 -- what was reported over the run, and the buffers at its end
-abbrev pub reportOf : List Made → Lent → Sums
-reportOf cs l = summed cs (record { slices = l; clocks = 0; blocks = 0; closed = 0 })
+abbrev pub reportedOver : List Made → Lent → Sums
+reportedOver cs l = summed cs (record { slices = l; clocks = 0; blocks = 0; closed = 0 })
 
 pub record Demands (machine : ℕ) (rom : List ℕ) (cs : List Made) (l : Lent) : Type 0 where
   -- "machine (0 = 48K, 1 = 128K)": the Rust's machine of that number
@@ -26,4 +26,4 @@ pub record Demands (machine : ℕ) (rom : List ℕ) (cs : List Made) (l : Lent) 
   -- and in all that the buffers hold; a refused one leaves everything as it was
   pub demand2 : AllSame rom cs (withRom rom (new rust)) l
   -- DEMAND 3: every picture and every sum
-  pub demand3 : Demand3 (machineOf machine) (started (machineOf machine)) cs (history (machineOf machine) (started (machineOf machine)) cs) (reportOf cs l)
+  pub demand3 : Demand3 (machineOf machine) (started (machineOf machine)) cs (history (machineOf machine) (started (machineOf machine)) cs) (reportedOver cs l)

@@ -30,7 +30,7 @@ use Rattle.bus.proofs.Reports.{call-moved}
 use Rattle.bus.proofs.TimedCalls.{TimedPart, plain-timed, address-timed, read-timed, write-timed}
 use Rattle.machine.specs.declared.ZXMachine as ours
 use Rattle.machine.specs.declared.ZXMachine.the-variants as our
-use Rattle.rustzx.specs.Panics.{Run, done, onDone, Ends}
+use Rattle.rustzx.specs.Panics.{OrPanic, done, onDone, Ends}
 use Rattle.rustzx.specs.Machine.{ZXMachine, Sinclair48K, Sinclair128K, specs}
 use Rattle.rustzx.specs.Memory.{Page, Rom, Ram, ZXMemory, ramPageData, pageData, blockData}
 use Rattle.rustzx.specs.Controller as rust
@@ -59,7 +59,7 @@ module _ (m : ZXMachine) (rom : List ℕ) where
   stays c w r = to-ran (λ x. []) c w r
 
   -- a call that acts and answers nothing
-  acted-ends : (f : Part) (w : World) (x : Run ZXController) → Ends x (λ c′. Related m rom c′ (behind (ourMachine m) f w))
+  acted-ends : (f : Part) (w : World) (x : OrPanic ZXController) → Ends x (λ c′. Related m rom c′ (behind (ourMachine m) f w))
       → Ends (acted x) (λ g. (g .answer ≡ []) × Related m rom (g .controller) (ranBy f (fresh (ourMachine m) w) .world))
   acted-ends f w x e =
       record {
@@ -69,7 +69,7 @@ module _ (m : ZXMachine) (rom : List ℕ) where
       }
 
   -- a write, whom it reached by its code
-  wrote-ends : (f : Part) (w : World) (code : Reached → ℕ) (n : ℕ) (x : Run Wrote)
+  wrote-ends : (f : Part) (w : World) (code : Reached → ℕ) (n : ℕ) (x : OrPanic Wrote)
       → Ends x (λ y. (code (y .reached) ≡ n) × Related m rom (y .controller) (behind (ourMachine m) f w))
       → Ends (wrote code x) (λ g. (g .answer ≡ n ∷ []) × Related m rom (g .controller) (ranBy f (fresh (ourMachine m) w) .world))
   wrote-ends f w code n x e =
@@ -80,7 +80,7 @@ module _ (m : ZXMachine) (rom : List ℕ) where
       }
 
   -- a call that tells bytes and changes nothing
-  told-ends : (c : ZXController) (w : World) (x : Run (List ℕ)) (bytes : List ℕ) → Related m rom c w → x ≡ done bytes
+  told-ends : (c : ZXController) (w : World) (x : OrPanic (List ℕ)) (bytes : List ℕ) → Related m rom c w → x ≡ done bytes
       → Ends (handsOut c x) (λ g. (g .answer ≡ bytes) × Related m rom (g .controller) (ranBy (λ y. []) (fresh (ourMachine m) w) .world))
   told-ends c w x bytes r e = record { value = gives c bytes; ends = ap (handsOut c) e; holds = (refl, stays c w r) }
 
@@ -107,7 +107,7 @@ module _ (m : ZXMachine) (rom : List ℕ) (c : ZXController) (w : World) (r : Re
   block-is block h =
       let p : Page = getD (c .memory .map) block (Rom 0) in
       let at = block-page (ourMachine m) rom ram last (c .memory) (r .memory) block in
-      ap (λ (x : Run Page). onDone x (λ q. pageData (c .memory) q)) (rw h at (bank-type-is (c .memory) block))
+      ap (λ (x : OrPanic Page). onDone x (λ q. pageData (c .memory) q)) (rw h at (bank-type-is (c .memory) block))
       ∙ data-is (c .memory) p (rw (at, r .memory .rom, r .memory .ram, r .romLong, r .ramLong) (map-holds (ourMachine m) last block))
       ∙ ap done (rw (r .memory .rom, r .memory .ram, at))
 
@@ -144,7 +144,7 @@ module _ (m : ZXMachine) (rom : List ℕ) (c : ZXController) (w : World) (r : Re
       let e = read-follows m rom d port (a .0) c w r in
       record {
         value = gives (e .value .controller) (e .value .value ∷ []);
-        ends = ap (λ (x : Run rust.Answered). onDone x (λ y. done (gives (y .controller) (y .value ∷ [])))) (e .ends);
+        ends = ap (λ (x : OrPanic rust.Answered). onDone x (λ y. done (gives (y .controller) (y .value ∷ [])))) (e .ends);
         holds = (ap (λ (v : ℕ). v ∷ []) (e .holds .0), to-ran m rom (portRead (ourMachine m) port) _ w (e .holds .1));
       }
   call-agrees (writeIo d port value) s a =
@@ -269,8 +269,8 @@ calls-agree m rom (k ∷ ks) c w r s a =
     record {
       value = record { controller = rest .value .controller; answers = one .value .answer ∷ rest .value .answers };
       ends =
-          ap (λ (x : Run Given). onDone x (λ g. onDone (allPerformed ks (g .controller)) (λ s. done (record { controller = s .controller; answers = g .answer ∷ s .answers })))) (one .ends)
-          ∙ ap (λ (x : Run Seen). onDone x (λ s. done (record { controller = s .controller; answers = one .value .answer ∷ s .answers }))) (rest .ends);
+          ap (λ (x : OrPanic Given). onDone x (λ g. onDone (allPerformed ks (g .controller)) (λ s. done (record { controller = s .controller; answers = g .answer ∷ s .answers })))) (one .ends)
+          ∙ ap (λ (x : OrPanic Seen). onDone x (λ s. done (record { controller = s .controller; answers = one .value .answer ∷ s .answers }))) (rest .ends);
       holds = (ap₂ (λ (x : List ℕ) (y : List (List ℕ)). x ∷ y) (one .holds .0) (rest .holds .0), rest .holds .1);
     }
 

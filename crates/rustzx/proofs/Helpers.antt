@@ -24,13 +24,13 @@ use Rattle.screen.specs.Colour.{bit, colourOf, colourNumber, attributeOf}
 use Rattle.screen.specs.Pixel.{pixelByte}
 use Rattle.screen.proofs.OneBit.{mask-bit}
 use Rattle.screen.proofs.RoundTrips.{number-then-colour}
-use Rattle.rustzx.specs.Panics.{Run, done, panics, assert}
+use Rattle.rustzx.specs.Panics.{OrPanic, done, panics, assert}
 use Rattle.rustzx.specs.Addresses.{lineAddr, bitmapLineAddr, lineRel, bitmapLineRel, bitmapColRel, attrRowRel, attrColRel}
 use Rattle.rustzx.specs.Colors.{ZXColor, Black, Blue, Red, Purple, Green, Cyan, Yellow, White, ZXBrightness, Normal, Bright, ZXAttribute, fromBits, colorByte, brightnessByte, fromByte, activeColor}
 use Rattle.rustzx.specs.Related.{ourColor, ourBrightness, ourAttribute}
 
 -- ---- the five helpers: a number is that number, and a refusal 8 is a panic
-abbrev pub asRun : Helped → Run ℕ
+abbrev pub asRun : Helped → OrPanic ℕ
 asRun (Number n) = done n
 asRun OutOfRange = panics
 
@@ -119,7 +119,7 @@ attribute-by f e g h = cc
 pub attribute-there : (a : attribute.ZXAttribute) → ourAttribute (rustAttribute a) ≡ a
 attribute-there a = attribute-by (a .flash) (color-there (a .ink)) (color-there (a .paper)) (brightness-there (a .brightness))
 
-abbrev pub colouredRun : Coloured → Run ZXColor
+abbrev pub colouredRun : Coloured → OrPanic ZXColor
 colouredRun (coloured.Colour c) = done (rustColor c)
 colouredRun coloured.OutOfRange = panics
 

@@ -26,7 +26,7 @@ use Rattle.bus.specs.Calls.{contended, plainWait, delayed, addressWait, firstPa
 use Rattle.bus.proofs.Runs.{acts-alone, world-core}
 use Rattle.machine.specs.declared.ZXMachine as ours
 use Rattle.rustzx.specs.Panics as run
-use Rattle.rustzx.specs.Panics.{Run, done, Ends}
+use Rattle.rustzx.specs.Panics.{OrPanic, done, Ends}
 use Rattle.rustzx.specs.Machine.{ZXMachine, Sinclair48K, Sinclair128K, contentionClocks, portIsContended}
 use Rattle.rustzx.specs.Memory.{getPage}
 use Rattle.rustzx.specs.Colors.{ZXColor, fromBits}
@@ -132,7 +132,7 @@ module _ (m : ZXMachine) (rom : List ℕ) where
       let r′ : Related m rom held′ w′ = before-follows port c w r in
       record {
         value = record { controller = waitInternal 1 held′; value = answered (ourMachine m) (readOrder d port) (w′ .core) };
-        ends = ap (λ (x : Run ℕ). run.onDone x (λ value. done (record { controller = waitInternal 1 held′; value = value })))
+        ends = ap (λ (x : OrPanic ℕ). run.onDone x (λ value. done (record { controller = waitInternal 1 held′; value = value })))
             (order-is m held′ (w′ .core) (floating-is m rom held′ w′ r′) d port h);
         holds = (
           ap (answered (ourMachine m) (readOrder d port)) (world-core (ourMachine m) (readBefore (ourMachine m) port (w .core)) w),
@@ -141,7 +141,7 @@ module _ (m : ZXMachine) (rom : List ℕ) where
       }
 
   -- ---- the port write: whom the Rust reached has the code of who hears it, and what it leaves is what hearing does
-  abbrev Hears : List Hearer → ℕ → World → Run Wrote → Type 0
+  abbrev Hears : List Hearer → ℕ → World → OrPanic Wrote → Type 0
   Hears f v w x =
       Ends x (λ y. (reachedCode (y .reached) ≡ heardCode f (pagedCode (write7ffd (ourMachine m) (w .core .paging) v))) × Related m rom (y .controller) (behind (ourMachine m) (actedOn (ourMachine m) f v) w))
 
@@ -159,7 +159,7 @@ module _ (m : ZXMachine) (rom : List ℕ) where
       let h : v % 8 < 8 = omega arith in
       record {
         value = reaches toBorder (setBorderColor (c .frameClocks) (rustColor (colourOf (v % 8))) c);
-        ends = ap (λ (x : Run ZXColor). run.onDone x (λ color. done (reaches toBorder (setBorderColor (c .frameClocks) color c)))) (ap fromBits (and-mask v 3) ∙ from-bits-done (v % 8) h);
+        ends = ap (λ (x : OrPanic ZXColor). run.onDone x (λ color. done (reaches toBorder (setBorderColor (c .frameClocks) color c)))) (ap fromBits (and-mask v 3) ∙ from-bits-done (v % 8) h);
         holds = (refl, colour-related m rom c w (rustColor (colourOf (v % 8))) (v % 8) (color-back (v % 8) h) r);
       }
 
@@ -180,7 +180,7 @@ module _ (m : ZXMachine) (rom : List ℕ) where
         );
       }
 
-  pick-hears : (v : ℕ) (w : World) (t : Bool) {x y : Run Wrote} (f g : List Hearer) → (t ≡ true → Hears f v w x) → Hears g v w y → Hears (cond t f g) v w (cond t x y)
+  pick-hears : (v : ℕ) (w : World) (t : Bool) {x y : OrPanic Wrote} (f g : List Hearer) → (t ≡ true → Hears f v w x) → Hears g v w y → Hears (cond t f g) v w (cond t x y)
   pick-hears v w true f g p q = p refl
   pick-hears v w false f g p q = q
 
@@ -217,7 +217,7 @@ module _ (m : ZXMachine) (rom : List ℕ) where
       let end = then-follows (lastPart (ourMachine m) port) finalStep (ioContentionLast port) (waitInternal 1) (last-follows port) (plain-follows 1) (a .value .controller) w₂ (a .holds .1) in
       record {
         value = reaches (a .value .reached) (waitInternal 1 (ioContentionLast port (a .value .controller)));
-        ends = ap (λ (x : Run Wrote). run.onDone x (λ acted. done (reaches (acted .reached) (waitInternal 1 (ioContentionLast port (acted .controller)))))) (a .ends);
+        ends = ap (λ (x : OrPanic Wrote). run.onDone x (λ acted. done (reaches (acted .reached) (waitInternal 1 (ioContentionLast port (acted .controller)))))) (a .ends);
         holds = (
           a .holds .0 ∙ ap (λ (x : Core). heardCode (hearers (ourMachine m) d port) (pagedCode (write7ffd (ourMachine m) (x .paging) v))) (world-core (ourMachine m) (firstPart (ourMachine m) port (w .core)) w),
           subst (Related m rom (waitInternal 1 (ioContentionLast port (a .value .controller))))

@@ -36,7 +36,7 @@ use Rattle.ports.proofs.Rows.{rows-byte, and-byte}
 use Rattle.bus.specs.World.{Core, World}
 use Rattle.bus.specs.Calls.{floatingByte, floatingBus, answered}
 use Rattle.rustzx.specs.Machine.{ZXMachine, Sinclair48K, Sinclair128K}
-use Rattle.rustzx.specs.Panics.{Run, done, each}
+use Rattle.rustzx.specs.Panics.{OrPanic, done, each}
 use Rattle.rustzx.specs.Memory.{read}
 use Rattle.rustzx.specs.Addresses.{bitmapLineAddr}
 use Rattle.rustzx.specs.Controller.{ZXController, keyboardByte, rowRead, ulaRead, floatingColumn, fetchFloating, floatingBusValue, kempstonRead, ayRead, afterMouse, mouseRead, extenderRead}
@@ -112,12 +112,12 @@ module _ (m : ZXMachine) (rom : List ℕ) (c : ZXController) (core : Core) (mem 
   read-video : (addr : ℕ) → addr / 16384 ≡ 1 → read (c .memory) addr ≡ peeked (ourMachine m) (core .paging) [] (core .ram) addr
   read-video addr e = read-is (ourMachine m) rom (core .ram) (core .paging) (c .memory) mem addr ∙ video-byte m (core .paging) rom (core .ram) addr e
 
-  pick-byte : (t : Bool) {x y : Run ℕ} (u v : FloatingPlace) → x ≡ done (byte u) → y ≡ done (byte v) → cond t x y ≡ done (byte (cond t u v))
+  pick-byte : (t : Bool) {x y : OrPanic ℕ} (u v : FloatingPlace) → x ≡ done (byte u) → y ≡ done (byte v) → cond t x y ≡ done (byte (cond t u v))
   pick-byte true u v p q = p
   pick-byte false u v p q = q
 
   -- floating_bus_value's test behind the origin, with the machine's 128 clocks of picture a line
-  abbrev floatingAt′ : ℕ → ℕ → Run ℕ
+  abbrev floatingAt′ : ℕ → ℕ → OrPanic ℕ
   floatingAt′ row r = cond (ltb row 192 && ltb r 124 && eqb (bitAnd r 0x04) 0) (fetchFloating c row r) (done 0xFF)
 
   fetch-is : (row r : ℕ) → row < 192 → r < 124 → fetchFloating c row r ≡ done (byte (fetched row r))
@@ -158,7 +158,7 @@ floating-is m rom c w r = floating-by m rom c (w .core) (r .machine) (r .memory)
 
 -- ---- the devices, from the end of the order to its start
 module _ (m : ZXMachine) (c : ZXController) (core : Core) (floats : floatingBusValue c ≡ done (floatingBus (ourMachine m) core)) where
-  pick-answer : (t : Bool) {x y : Run ℕ} (u v : Answer) → x ≡ done (answered (ourMachine m) u core) → y ≡ done (answered (ourMachine m) v core)
+  pick-answer : (t : Bool) {x y : OrPanic ℕ} (u v : Answer) → x ≡ done (answered (ourMachine m) u core) → y ≡ done (answered (ourMachine m) v core)
       → cond t x y ≡ done (answered (ourMachine m) (cond t u v) core)
   pick-answer true u v p q = p
   pick-answer false u v p q = q

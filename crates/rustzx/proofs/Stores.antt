@@ -24,7 +24,7 @@ use Rattle.bus.specs.World.{Core, Screen, World}
 use Rattle.bus.specs.Time.{store, paged, silent, inCore, inScreen, inEdge, does, worldAfter}
 use Rattle.bus.specs.Calls.{pagingOps, pagingWrite}
 use Rattle.rustzx.specs.Machine.{ZXMachine, Sinclair48K, Sinclair128K}
-use Rattle.rustzx.specs.Panics.{Run, done, Option, some, none, onDone, each, Ends}
+use Rattle.rustzx.specs.Panics.{OrPanic, done, Option, some, none, onDone, each, Ends}
 use Rattle.rustzx.specs.Memory.{Page, Rom, Ram, ZXMemory, getPage, write, loadPage}
 use Rattle.rustzx.specs.Screen.{ScreenBank, ZXScreen, localBank, withActive, switchTo, switchBank, withBank, updateIn, update}
 use Rattle.rustzx.specs.Controller.{ZXController, withMemory, withPaging, toPaging, Wrote, reaches, newScreenBank, remapped, stillEnabled, write7ffd, updated, writeInternal, refreshByte, refreshPage, refreshed, loadAndRefresh}
@@ -46,9 +46,9 @@ opened : (v : ℕ) (c : ZXController) (mem : ZXMemory) → c .pagingEnabled ≡ 
     ≡ done (reaches (toPaging true) (withPaging mem (switchBank (c .machine) (newScreenBank v) (c .screen)) (stillEnabled v (c .pagingEnabled)) (newScreenBank v) v c))
 unfolding write7ffd
 opened v c mem e f =
-    let next : ZXMemory → Run Wrote =
+    let next : ZXMemory → OrPanic Wrote =
     λ x. done (reaches (toPaging true) (withPaging x (switchBank (c .machine) (newScreenBank v) (c .screen)) (stillEnabled v (c .pagingEnabled)) (newScreenBank v) v c)) in
-    ap (λ (t : Bool). cond (not t) (done (reaches (toPaging false) c)) (onDone (remapped v (c .memory)) next)) e ∙ ap (λ (r : Run ZXMemory). onDone r next) f
+    ap (λ (t : Bool). cond (not t) (done (reaches (toPaging false) c)) (onDone (remapped v (c .memory)) next)) e ∙ ap (λ (r : OrPanic ZXMemory). onDone r next) f
 
 turned : {A : Type 0} (t : Bool) (x y : A) → cond (not t) x y ≡ cond t y x
 turned true x y = refl
@@ -230,7 +230,7 @@ module _ (m : ZXMachine) (rom : List ℕ) (c : ZXController) (w : World) (addr v
       record {
         value = withMemory (write (c .memory) addr v) (bankPut (localBank m p) rel v (c .screen)) c;
         ends = ap (λ (n : ZXMachine). onDone (update n rel p v (c .screen)) (λ s. done (withMemory (write (c .memory) addr v) s c))) (r .machine)
-            ∙ ap (λ (x : Run ZXScreen). onDone x (λ s. done (withMemory (write (c .memory) addr v) s c))) (update-any (localBank m p) rel v (c .screen));
+            ∙ ap (λ (x : OrPanic ZXScreen). onDone x (λ s. done (withMemory (write (c .memory) addr v) s c))) (update-any (localBank m p) rel v (c .screen));
         holds = record {
           machine = r .machine;
           memory = written-to (page.Ram p) e;
@@ -299,7 +299,7 @@ module _ (m : ZXMachine) (bank b : ℕ) (bytes : List ℕ) (s : ZXScreen) (local
 refresh-page : (m : ZXMachine) (bank b : ℕ) (mem : ZXMemory) (s : ZXScreen) → length (mem .ram) ≡ specsOf (ourMachine m) .ram → pageExists (ourMachine m) bank ≡ true
     → localBank m bank ≡ some b → refreshPage m bank mem (done s) ≡ done (withBank b (putAll (ramPage bank (mem .ram)) 16384) s)
 refresh-page m bank b mem s long there local =
-    ap (λ (r : Run (List ℕ)). onDone r (λ bytes. each 0 16384 (refreshByte m bank bytes) (done s))) (rw there at (page-data-is m mem long bank))
+    ap (λ (r : OrPanic (List ℕ)). onDone r (λ bytes. each 0 16384 (refreshByte m bank bytes) (done s))) (rw there at (page-data-is m mem long bank))
     ∙ refresh-loop m bank b (ramPage bank (mem .ram)) s local 16384
 
 -- a bank mirrors a page of the RAM as it stands
@@ -342,10 +342,10 @@ load-related m rom c w p bytes r there whole =
     record {
       value = withMemory mem (f .value) c;
       ends =
-          ap (λ (x : Run ZXMemory). onDone x (λ mem. onDone (refreshed (c .machine) mem (c .screen)) (λ s. done (withMemory mem s c))))
+          ap (λ (x : OrPanic ZXMemory). onDone x (λ mem. onDone (refreshed (c .machine) mem (c .screen)) (λ s. done (withMemory mem s c))))
           (rw there at (load-is m (c .memory) (ap length (r .memory .ram) ∙ r .ramLong) p bytes))
           ∙ ap (λ (n : ZXMachine). onDone (refreshed n mem (c .screen)) (λ s. done (withMemory mem s c))) (r .machine)
-          ∙ ap (λ (x : Run ZXScreen). onDone x (λ s. done (withMemory mem s c))) (f .ends);
+          ∙ ap (λ (x : OrPanic ZXScreen). onDone x (λ s. done (withMemory mem s c))) (f .ends);
       holds = record {
         machine = r .machine;
         memory = record { rom = r .memory .rom; ram = same; pages = r .memory .pages };

@@ -4,7 +4,7 @@ use Prim.Native.Nat.{ℕ, _-_, _*_, _/_, _%_}
 use mathlib.Core.Bool.{Bool, _&&_}
 use lib.Dec.{ltb, leb}
 use lib.Bits.{bitAnd, bitOr}
-use Rattle.rustzx.specs.Panics.{Run, done, assert}
+use Rattle.rustzx.specs.Panics.{OrPanic, done, assert}
 
 -- constants.rs
 abbrev pub canvasHeight : ℕ
@@ -23,7 +23,7 @@ attrCols = 32
 abbrev pub lineAddr : ℕ → ℕ
 lineAddr line = bitOr (bitOr (bitOr 0x4000 (bitAnd (line * 32) 0x1800)) (bitAnd (line * 256) 0x0700)) (bitAnd (line * 4) 0x00E0)
 
-unfoldable pub bitmapLineAddr : ℕ → Run ℕ
+unfoldable pub bitmapLineAddr : ℕ → OrPanic ℕ
 bitmapLineAddr line = assert (ltb line canvasHeight) (done (lineAddr line))
 
 -- addr.to_le_bytes()
@@ -37,11 +37,11 @@ high addr = addr / 256
 abbrev pub lineRel : ℕ → ℕ
 lineRel addr = bitOr (bitOr (bitAnd (high addr) 0x07) (bitAnd (low addr / 4) 0x38)) (bitAnd (high addr * 8 % 256) 0xC0)
 
-unfoldable pub bitmapLineRel : ℕ → Run ℕ
+unfoldable pub bitmapLineRel : ℕ → OrPanic ℕ
 bitmapLineRel addr = assert (ltb addr attrBaseRel) (done (lineRel addr))
 
 -- fn bitmap_col_rel
-unfoldable pub bitmapColRel : ℕ → Run ℕ
+unfoldable pub bitmapColRel : ℕ → OrPanic ℕ
 bitmapColRel addr = assert (ltb addr attrBaseRel) (done (bitAnd (low addr) 0x1F))
 
 -- (ATTR_BASE_REL..=ATTR_MAX_REL).contains(&addr)
@@ -49,9 +49,9 @@ abbrev pub inAttributes : ℕ → Bool
 inAttributes addr = leb attrBaseRel addr && leb addr attrMaxRel
 
 -- fn attr_row_rel
-unfoldable pub attrRowRel : ℕ → Run ℕ
+unfoldable pub attrRowRel : ℕ → OrPanic ℕ
 attrRowRel addr = assert (inAttributes addr) (done ((addr - attrBaseRel) / attrCols))
 
 -- fn attr_col_rel
-unfoldable pub attrColRel : ℕ → Run ℕ
+unfoldable pub attrColRel : ℕ → OrPanic ℕ
 attrColRel addr = assert (inAttributes addr) (done ((addr - attrBaseRel) % attrCols))

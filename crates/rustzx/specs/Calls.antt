@@ -17,7 +17,7 @@ use Rattle.bus.specs.World.{World}
 use Rattle.bus.specs.Time.{shownPicture}
 use Rattle.bus.specs.Turns.{Part, fresh, ranBy}
 use Rattle.bus.specs.Calls.{plainWait, addressWait, portRead, readValue, pagingWrite, portWrite, writeCode}
-use Rattle.rustzx.specs.Panics.{Run, done, onDone}
+use Rattle.rustzx.specs.Panics.{OrPanic, done, onDone}
 use Rattle.rustzx.specs.Machine.{ZXMachine, specs}
 use Rattle.rustzx.specs.Memory.{ramPageData, blockData}
 use Rattle.rustzx.specs.Screen.{blockIndex}
@@ -70,16 +70,16 @@ pub record Given : Type 0 where
 abbrev pub gives : ZXController → List ℕ → Given
 gives c answer = record { controller = c; answer = answer }
 
-abbrev pub acted : Run ZXController → Run Given
+abbrev pub acted : OrPanic ZXController → OrPanic Given
 acted r = onDone r (λ c. done (gives c []))
 
-abbrev pub wrote : (Reached → ℕ) → Run Wrote → Run Given
+abbrev pub wrote : (Reached → ℕ) → OrPanic Wrote → OrPanic Given
 wrote code r = onDone r (λ w. done (gives (w .controller) (code (w .reached) ∷ [])))
 
-abbrev pub handsOut : ZXController → Run (List ℕ) → Run Given
+abbrev pub handsOut : ZXController → OrPanic (List ℕ) → OrPanic Given
 handsOut c r = onDone r (λ answer. done (gives c answer))
 
-unfoldable pub performed : Call → ZXController → Run Given
+unfoldable pub performed : Call → ZXController → OrPanic Given
 performed (waitInternal n) c = done (gives (rust.waitInternal n c) [])
 performed (waitMreq addr n) c = done (gives (rust.waitMreq addr n c) [])
 performed (waitNoMreq addr n) c = done (gives (rust.waitNoMreq addr n c) [])
@@ -170,7 +170,7 @@ pub record Seen : Type 0 where
   pub controller : ZXController
   pub answers : List (List ℕ)
 
-unfoldable pub allPerformed : List Call → ZXController → Run Seen
+unfoldable pub allPerformed : List Call → ZXController → OrPanic Seen
 allPerformed [] c = done (record { controller = c; answers = [] })
 allPerformed (k ∷ ks) c =
     onDone (performed k c) (λ g.

@@ -4,7 +4,7 @@ use Prim.Native.Nat.{ℕ, zero, suc, _/_}
 use mathlib.Core.Bool.{Bool, cond, not, _&&_, xor}
 use lib.Dec.{leb, eqb}
 use lib.Bits.{bitAnd}
-use Rattle.rustzx.specs.Panics.{Run, done, panics, onDone, assert}
+use Rattle.rustzx.specs.Panics.{OrPanic, done, panics, onDone, assert}
 
 -- enum ZXColor, enum ZXBrightness, struct ZXAttribute
 pub data ZXColor : Type 0 where
@@ -28,7 +28,7 @@ pub record ZXAttribute : Type 0 where
   pub brightness : ZXBrightness
 
 -- fn from_bits: assert!(bits <= 7), then a match whose last arm is unreachable!()
-abbrev pub matched : ℕ → Run ZXColor
+abbrev pub matched : ℕ → OrPanic ZXColor
 matched zero = done Black
 matched (suc zero) = done Blue
 matched (suc (suc zero)) = done Red
@@ -39,7 +39,7 @@ matched (suc (suc (suc (suc (suc (suc zero)))))) = done Yellow
 matched (suc (suc (suc (suc (suc (suc (suc zero))))))) = done White
 matched (suc (suc (suc (suc (suc (suc (suc (suc n)))))))) = panics
 
-unfoldable pub fromBits : ℕ → Run ZXColor
+unfoldable pub fromBits : ℕ → OrPanic ZXColor
 fromBits bits = assert (leb bits 7) (matched bits)
 
 -- impl From<ZXColor> for u8
@@ -59,7 +59,7 @@ brightnessByte Normal = 0
 brightnessByte Bright = 1
 
 -- fn from_byte
-unfoldable pub fromByte : ℕ → Run ZXAttribute
+unfoldable pub fromByte : ℕ → OrPanic ZXAttribute
 fromByte value =
     onDone (fromBits (bitAnd value 0x07)) (λ ink.
     onDone (fromBits (bitAnd (value / 8) 0x07)) (λ paper.

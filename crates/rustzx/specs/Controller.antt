@@ -7,7 +7,7 @@ use mathlib.Core.List.{List}
 use lib.Dec.{ltb, leb, eqb}
 use lib.ListN.{getD}
 use lib.Bits.{bitAnd, bitXor}
-use Rattle.rustzx.specs.Panics.{Run, done, Option, some, none, onDone, each}
+use Rattle.rustzx.specs.Panics.{OrPanic, done, Option, some, none, onDone, each}
 use Rattle.rustzx.specs.Machine.{ZXMachine, Sinclair48K, Sinclair128K, specs, contentionClocks, portIsContended, bankIsContended}
 use Rattle.rustzx.specs.Addresses.{canvasHeight, bitmapLineAddr}
 use Rattle.rustzx.specs.Colors.{ZXColor, Black, fromBits}
@@ -79,17 +79,17 @@ withPaging mem s enabled bank value c =
 abbrev pub floatingColumn : ℕ → ℕ
 floatingColumn clocks = clocks / 8 * 2 + clocks % 8 / 2
 
-abbrev pub fetchFloating : ZXController → ℕ → ℕ → Run ℕ
+abbrev pub fetchFloating : ZXController → ℕ → ℕ → OrPanic ℕ
 fetchFloating c row clocks =
     cond (eqb (clocks % 2) 0)
     (onDone (bitmapLineAddr row) (λ addr. done (read (c .memory) (addr + floatingColumn clocks))))
     (done (read (c .memory) (0x5800 + (row / 8 * 32 + floatingColumn clocks))))
 
-abbrev pub floatingAt : ZXController → ℕ → ℕ → Run ℕ
+abbrev pub floatingAt : ZXController → ℕ → ℕ → OrPanic ℕ
 floatingAt c row clocks =
     cond (ltb row canvasHeight && ltb clocks (specs (c .machine) .clocks .screenRow - 4) && eqb (bitAnd clocks 0x04) 0) (fetchFloating c row clocks) (done 0xFF)
 
-unfoldable pub floatingBusValue : ZXController → Run ℕ
+unfoldable pub floatingBusValue : ZXController → OrPanic ℕ
 floatingBusValue c =
     let origin = specs (c .machine) .clocksFirstPixel + 2 in
     let line = specs (c .machine) .clocks .line in
@@ -160,14 +160,14 @@ abbrev pub newScreenBank : ℕ → ℕ
 newScreenBank val = cond (eqb (bitAnd val 0x08) 0) 5 7
 
 -- the remaps of the top 16K of RAM and of the ROM, each of which panics where there is no such page
-abbrev pub remapped : ℕ → ZXMemory → Run ZXMemory
+abbrev pub remapped : ℕ → ZXMemory → OrPanic ZXMemory
 remapped val mem = onDone (remap mem 3 (Ram (bitAnd val 0x07))) (λ top. remap top 0 (Rom (bitAnd (val / 16) 0x01)))
 
 -- check paging allow bit
 abbrev pub stillEnabled : ℕ → Bool → Bool
 stillEnabled val enabled = cond (not (eqb (bitAnd val 0x20) 0)) false enabled
 
-unfoldable pub write7ffd : ℕ → ZXController → Run Wrote
+unfoldable pub write7ffd : ℕ → ZXController → OrPanic Wrote
 write7ffd val c =
     cond (not (c .pagingEnabled)) (done (reaches (toPaging false) c))
     (onDone (remapped val (c .memory)) (λ mem.
@@ -181,12 +181,12 @@ setBorderColor clocks color c = withBorder (setBorder (c .machine) clocks color 
 abbrev pub readInternal : ℕ → ZXController → ℕ
 readInternal addr c = read (c .memory) addr
 
-abbrev pub updated : Page → ℕ → ℕ → ZXController → Run ZXController
+abbrev pub updated : Page → ℕ → ℕ → ZXController → OrPanic ZXController
 updated (Rom bank) addr value c = done (withMemory (write (c .memory) addr value) (c .screen) c)
 updated (Ram bank) addr value c =
     onDone (update (c .machine) (addr % pageSize) bank value (c .screen)) (λ s. done (withMemory (write (c .memory) addr value) s c))
 
-unfoldable pub writeInternal : ℕ → ℕ → ZXController → Run ZXController
+unfoldable pub writeInternal : ℕ → ℕ → ZXController → OrPanic ZXController
 writeInternal addr value c = updated (getPage (write (c .memory) addr value) addr) addr value c
 
 -- fn wait_mreq, fn wait_no_mreq
@@ -226,25 +226,25 @@ ulaRead a port =
     cond (not (a .currentBit)) (bitXor tmp 0x40) tmp
 
 -- kempston, read_ay_port, mouse, io_extender: in the Rust's order, from its end to its start
-abbrev pub kempstonRead : Option ℕ → ℕ → ZXController → Run ℕ
+abbrev pub kempstonRead : Option ℕ → ℕ → ZXController → OrPanic ℕ
 kempstonRead none port c = floatingBusValue c
 kempstonRead (some byte) port c = cond (eqb (bitAnd port 0x00E0) 0) (done byte) (floatingBusValue c)
 
-abbrev pub ayRead : Option ℕ → ZXController → Run ℕ
+abbrev pub ayRead : Option ℕ → ZXController → OrPanic ℕ
 ayRead none c = floatingBusValue c
 ayRead (some byte) c = done byte
 
-abbrev pub afterMouse : Attached → ℕ → ZXController → Run ℕ
+abbrev pub afterMouse : Attached → ℕ → ZXController → OrPanic ℕ
 afterMouse a port c = cond (eqb (bitAnd port 0xC002) 0xC000) (ayRead (a .ay) c) (kempstonRead (a .kempston) port c)
 
-abbrev pub mouseRead : Option Mouse → Attached → ℕ → ZXController → Run ℕ
+abbrev pub mouseRead : Option Mouse → Attached → ℕ → ZXController → OrPanic ℕ
 mouseRead none a port c = afterMouse a port c
 mouseRead (some mouse) a port c =
     cond (eqb (bitAnd port 0x0121) 0x0001) (done (mouse .buttonsPort))
     (cond (eqb (bitAnd port 0x0521) 0x0101) (done (mouse .xPosPort))
     (cond (eqb (bitAnd port 0x0521) 0x0501) (done (mouse .yPosPort)) (afterMouse a port c)))
 
-abbrev pub extenderRead : Option ℕ → Attached → ℕ → ZXController → Run ℕ
+abbrev pub extenderRead : Option ℕ → Attached → ℕ → ZXController → OrPanic ℕ
 extenderRead (some byte) a port c = done byte
 extenderRead none a port c = cond (eqb (bitAnd port 0x0001) 0) (done (ulaRead a port)) (mouseRead (a .mouse) a port c)
 
@@ -253,7 +253,7 @@ pub record Answered : Type 0 where
   pub controller : ZXController
   pub value : ℕ
 
-unfoldable pub readIo : Attached → ℕ → ZXController → Run Answered
+unfoldable pub readIo : Attached → ℕ → ZXController → OrPanic Answered
 readIo a port c =
     let held = ioContentionLast port (ioContentionFirst port c) in
     onDone (extenderRead (a .ioExtender) a port held) (λ value. done (record { controller = waitInternal 1 held; value = value }))
@@ -263,18 +263,18 @@ abbrev pub is128K : ZXMachine → Bool
 is128K Sinclair48K = false
 is128K Sinclair128K = true
 
-abbrev pub portWrite : ℕ → ℕ → ZXController → Run Wrote
+abbrev pub portWrite : ℕ → ℕ → ZXController → OrPanic Wrote
 portWrite port byte c =
     cond (eqb (bitAnd port 0xC002) 0xC000) (done (reaches toAySelect c))
     (cond (eqb (bitAnd port 0xC002) 0x8000) (done (reaches toAyWrite c))
     (cond (eqb (bitAnd port 0x0001) 0) (onDone (fromBits (bitAnd byte 0x07)) (λ color. done (reaches toBorder (setBorderColor (c .frameClocks) color c))))
     (cond (eqb (bitAnd port 0x8002) 0 && is128K (c .machine)) (write7ffd byte c) (done (reaches toNobody c)))))
 
-abbrev pub extenderWrite : Option ℕ → ℕ → ℕ → ZXController → Run Wrote
+abbrev pub extenderWrite : Option ℕ → ℕ → ℕ → ZXController → OrPanic Wrote
 extenderWrite (some own) port byte c = done (reaches toExtender c)
 extenderWrite none port byte c = portWrite port byte c
 
-unfoldable pub writeIo : Attached → ℕ → ℕ → ZXController → Run Wrote
+unfoldable pub writeIo : Attached → ℕ → ℕ → ZXController → OrPanic Wrote
 writeIo a port byte c =
     onDone (extenderWrite (a .ioExtender) port byte (ioContentionFirst port c))
     (λ acted. done (reaches (acted .reached) (waitInternal 1 (ioContentionLast port (acted .controller)))))
@@ -288,17 +288,17 @@ abbrev pub resetFrameCounter : ZXController → ZXController
 resetFrameCounter c = withTime (c .screen) (c .border) (c .frameClocks) 0 c
 
 -- fn refresh_memory_dependent_devices: every byte of the video pages is updated
-abbrev pub refreshByte : ZXMachine → ℕ → List ℕ → ℕ → Run ZXScreen → Run ZXScreen
+abbrev pub refreshByte : ZXMachine → ℕ → List ℕ → ℕ → OrPanic ZXScreen → OrPanic ZXScreen
 refreshByte m bank bytes idx s = onDone s (λ s. update m idx bank (getD bytes idx 0) s)
 
-abbrev pub refreshPage : ZXMachine → ℕ → ZXMemory → Run ZXScreen → Run ZXScreen
+abbrev pub refreshPage : ZXMachine → ℕ → ZXMemory → OrPanic ZXScreen → OrPanic ZXScreen
 refreshPage m bank mem s = onDone (ramPageData mem bank) (λ bytes. each 0 16384 (refreshByte m bank bytes) s)
 
-abbrev pub refreshed : ZXMachine → ZXMemory → ZXScreen → Run ZXScreen
+abbrev pub refreshed : ZXMachine → ZXMemory → ZXScreen → OrPanic ZXScreen
 refreshed Sinclair48K mem s = refreshPage Sinclair48K 0 mem (done s)
 refreshed Sinclair128K mem s = refreshPage Sinclair128K 7 mem (refreshPage Sinclair128K 5 mem (done s))
 
 -- a page load, and the refresh that follows it
-unfoldable pub loadAndRefresh : ℕ → List ℕ → ZXController → Run ZXController
+unfoldable pub loadAndRefresh : ℕ → List ℕ → ZXController → OrPanic ZXController
 loadAndRefresh page bytes c =
     onDone (loadPage (c .memory) page bytes) (λ mem. onDone (refreshed (c .machine) mem (c .screen)) (λ s. done (withMemory mem s c)))

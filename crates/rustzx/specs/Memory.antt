@@ -5,7 +5,7 @@ use mathlib.Core.Bool.{cond}
 use mathlib.Core.List.{List, [], _∷_, _++_}
 use lib.Dec.{ltb}
 use lib.ListN.{length, getD, set, take, drop, replicate}
-use Rattle.rustzx.specs.Panics.{Run, done, panics, assert, onDone}
+use Rattle.rustzx.specs.Panics.{OrPanic, done, panics, assert, onDone}
 use Rattle.rustzx.specs.Machine.{ZXMachine, Sinclair48K, Sinclair128K}
 
 abbrev pub pageSize : ℕ
@@ -53,32 +53,32 @@ write mem addr value = writeIn mem (getPage mem addr) (addr % pageSize) value
 abbrev pub mapped : ZXMemory → ℕ → Page → ZXMemory
 mapped mem block page = record { rom = mem .rom; ram = mem .ram; map = set (mem .map) block page }
 
-abbrev pub remap : ZXMemory → ℕ → Page → Run ZXMemory
+abbrev pub remap : ZXMemory → ℕ → Page → OrPanic ZXMemory
 remap mem block (Ram page) = cond (ltb (length (mem .ram)) ((page + 1) * pageSize)) panics (done (mapped mem block (Ram page)))
 remap mem block (Rom page) = cond (ltb (length (mem .rom)) ((page + 1) * pageSize)) panics (done (mapped mem block (Rom page)))
 
 -- fn get_bank_type: assert!(block < MEM_BLOCKS)
-abbrev pub getBankType : ZXMemory → ℕ → Run Page
+abbrev pub getBankType : ZXMemory → ℕ → OrPanic Page
 getBankType mem block = assert (ltb block 4) (done (getD (mem .map) block (Rom 0)))
 
 -- fn rom_page_data_mut, read
-abbrev pub romPageData : ZXMemory → ℕ → Run (List ℕ)
+abbrev pub romPageData : ZXMemory → ℕ → OrPanic (List ℕ)
 romPageData mem page = cond (ltb (length (mem .rom)) ((page + 1) * pageSize)) panics (done (take pageSize (drop (page * pageSize) (mem .rom))))
 
 -- fn ram_page_data
-abbrev pub ramPageData : ZXMemory → ℕ → Run (List ℕ)
+abbrev pub ramPageData : ZXMemory → ℕ → OrPanic (List ℕ)
 ramPageData mem page = cond (ltb (length (mem .ram)) ((page + 1) * pageSize)) panics (done (take pageSize (drop (page * pageSize) (mem .ram))))
 
 -- fn ram_page_data_mut, and copy_from_slice of a page's bytes over it
-abbrev pub loadPage : ZXMemory → ℕ → List ℕ → Run ZXMemory
+abbrev pub loadPage : ZXMemory → ℕ → List ℕ → OrPanic ZXMemory
 loadPage mem page bytes =
     cond (ltb (length (mem .ram)) ((page + 1) * pageSize)) panics
     (done (record { rom = mem .rom; ram = take (page * pageSize) (mem .ram) ++ bytes ++ drop (page * pageSize + pageSize) (mem .ram); map = mem .map }))
 
 -- the 16 KiB at a block: get_bank_type, and the data of the page that it names
-abbrev pub pageData : ZXMemory → Page → Run (List ℕ)
+abbrev pub pageData : ZXMemory → Page → OrPanic (List ℕ)
 pageData mem (Rom page) = romPageData mem page
 pageData mem (Ram page) = ramPageData mem page
 
-abbrev pub blockData : ZXMemory → ℕ → Run (List ℕ)
+abbrev pub blockData : ZXMemory → ℕ → OrPanic (List ℕ)
 blockData mem block = onDone (getBankType mem block) (λ page. pageData mem page)

@@ -7,7 +7,7 @@ use mathlib.Core.List.{List}
 use lib.Dec.{ltb, leb, eqb}
 use lib.ListN.{getD, set, replicate}
 use lib.Bits.{bitAnd}
-use Rattle.rustzx.specs.Panics.{Run, done, Option, some, none, onDone, each}
+use Rattle.rustzx.specs.Panics.{OrPanic, done, Option, some, none, onDone, each}
 use Rattle.rustzx.specs.Machine.{ZXMachine, Sinclair48K, Sinclair128K, specs}
 use Rattle.rustzx.specs.Addresses.{canvasHeight, attrCols, bitmapLineRel, bitmapColRel, attrRowRel, attrColRel}
 use Rattle.rustzx.specs.Colors.{ZXColor, Black, ZXBrightness, Normal, ZXAttribute, colorByte, brightnessByte, fromByte, activeColor}
@@ -169,19 +169,19 @@ putBitmap i byte b = record { attributes = b .attributes; bitmap = set (b .bitma
 abbrev pub putAttribute : ℕ → ZXAttribute → ScreenBank → ScreenBank
 putAttribute i a b = record { attributes = set (b .attributes) i a; bitmap = b .bitmap }
 
-abbrev pub updateBitmap : ℕ → ℕ → ℕ → ZXScreen → Run ZXScreen
+abbrev pub updateBitmap : ℕ → ℕ → ℕ → ZXScreen → OrPanic ZXScreen
 updateBitmap bank rel byte s =
     onDone (bitmapLineRel rel) (λ line. onDone (bitmapColRel rel) (λ col. done (withBank bank (putBitmap (line * attrCols + col) byte) s)))
 
-abbrev pub updateAttribute : ℕ → ℕ → ℕ → ZXScreen → Run ZXScreen
+abbrev pub updateAttribute : ℕ → ℕ → ℕ → ZXScreen → OrPanic ZXScreen
 updateAttribute bank rel byte s =
     onDone (attrRowRel rel) (λ row. onDone (attrColRel rel) (λ col. onDone (fromByte byte) (λ a.
     done (withBank bank (putAttribute (row * attrCols + col) a) s))))
 
-abbrev pub updateIn : Option ℕ → ℕ → ℕ → ZXScreen → Run ZXScreen
+abbrev pub updateIn : Option ℕ → ℕ → ℕ → ZXScreen → OrPanic ZXScreen
 updateIn none rel byte s = done s
 updateIn (some bank) rel byte s =
     cond (leb rel 0x17FF) (updateBitmap bank rel byte s) (cond (leb rel 0x1AFF) (updateAttribute bank rel byte s) (done s))
 
-abbrev pub update : ZXMachine → ℕ → ℕ → ℕ → ZXScreen → Run ZXScreen
+abbrev pub update : ZXMachine → ℕ → ℕ → ℕ → ZXScreen → OrPanic ZXScreen
 update m rel bank byte s = updateIn (localBank m bank) rel byte s

@@ -6,6 +6,7 @@ use mathlib.Core.Path.{_≡_}
 use mathlib.Core.List.{List}
 use lib.ListN.{length}
 use Rattle.machine.specs.Numbers.{specsOf}
+use Rattle.machine.specs.Limits.{pictureLength, borderLength}
 use Rattle.machine.specs.Timing.{blockPosition}
 use Rattle.record.specs.declared.Bus.{Bus}
 use Rattle.border.specs.Edge.{Edge}
@@ -54,9 +55,9 @@ nextFrame bus clock =
 -- or not, so this one line says that the passed frames will fit.
 pub record Ready (t : Turn) (steps clocks : ℕ) : Type 0 where
   pub ramFits : length (t .world .core .ram) ≡ specsOf (t .machine) .ram
-  pub aFits : length (t .world .screen .a) ≡ 49152
-  pub bFits : length (t .world .screen .b) ≡ 49152
-  pub borderFits : length (t .world .edge .pixels) ≡ 76800
+  pub aFits : length (t .world .screen .a) ≡ pictureLength
+  pub bFits : length (t .world .screen .b) ≡ pictureLength
+  pub borderFits : length (t .world .edge .pixels) ≡ borderLength
   pub phaseFits : t .world .core .phase < 32
   pub inFrame : t .world .core .clock < specsOf (t .machine) .frame
   pub inPlace : t .world .screen .painted ≤ blockPosition (specsOf (t .machine)) (t .world .core .clock)

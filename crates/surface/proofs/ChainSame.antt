@@ -20,8 +20,9 @@ use Rattle.memory.specs.Paging as paging
 use Rattle.memory.specs.Paging.{pagingAfter}
 use Rattle.paint.specs.Paint.{blocks}
 use Rattle.memory.specs.Memory.{ramPage}
-use Rattle.bus.specs.World.{World, busOf, started}
+use Rattle.bus.specs.World.{World, busOf, started, Sized}
 use Rattle.bus.specs.Time.{worldAfter}
+use Rattle.bus.proofs.Lengths.{started-sized}
 use Rattle.bus.proofs.Kept.{SoundWorld, started-sound}
 use Rattle.answers.specs.declared.Verdict.the-variants.{Accepted}
 use Rattle.answers.specs.Judges.{romFits, judgeStill}
@@ -31,11 +32,11 @@ use Rattle.answers.proofs.Order.{state-ordered, wait-ordered, port-ordered, tol
 use Rattle.contracts.specs.Timed.{Lent, lentBy, Outcome, lentWorld, judgeWaitOf, judgePortOf, start}
 use Rattle.contracts.specs.Plain.{Told, told, stillPage, stillPicture}
 use Rattle.contracts.specs.Helpers.{helperCall}
-use Rattle.contracts.specs.Calls.{TimedCall, plain, mreq, noMreq, portIn, portOut, Helper, lineAddr, lineOf, columnOf, attrRowOf, attrColumnOf, colourBits, Question, byteRead, pagingRead, interruptAsked, framesAsked, pageAsked, blockAsked, shownAsked, stillAsked, help, Call, startAgain, takeTime, writeByte, writePaging, resetPassed, loadRam, ask, Result, result, withRam, withState, waited, opsOf, helpedBy, replied, performed, timedCauses, questionCauses, causesOf, refusedFilled, Typed, lentOf, handedBack, Sized, Made, buffersAfter, Obeyed, AllTyped, NotStarted, NoSecondStart}
+use Rattle.contracts.specs.Calls.{TimedCall, plain, mreq, noMreq, portIn, portOut, Helper, lineAddr, lineOf, columnOf, attrRowOf, attrColumnOf, colourBits, Question, byteRead, pagingRead, interruptAsked, framesAsked, pageAsked, blockAsked, shownAsked, stillAsked, help, Call, startAgain, takeTime, writeByte, writePaging, resetPassed, loadRam, ask, Result, result, withRam, withState, waited, opsOf, helpedBy, replied, performed, timedCauses, questionCauses, causesOf, refusedFilled, Typed, lentOf, handedBack, Made, buffersAfter, Obeyed, AllTyped, NotStarted, NoSecondStart}
 use Rattle.contracts.proofs.Calls.{call-numbered, call-refused}
-use Rattle.contracts.proofs.Acts.{sized-kept, start-left, start-sized, acted}
+use Rattle.contracts.proofs.Acts.{sized-kept, start-left, acted}
 use Rattle.contracts.proofs.AsWhole.{as-whole, as-refused}
-use Rattle.rustzx.specs.Panics.{Run, done, panics}
+use Rattle.rustzx.specs.Panics.{OrPanic, done, panics}
 use Rattle.rustzx.specs.Controller as rust
 use Rattle.rustzx.specs.Controller.{ZXController, new, withRom}
 use Rattle.rustzx.specs.Related.{ourMachine, Related}
@@ -43,7 +44,7 @@ use Rattle.rustzx.specs.Memory.{ramPageData, blockData}
 use Rattle.rustzx.specs.Calls as rustCalls
 use Rattle.rustzx.specs.Calls.{Given}
 use Rattle.surface.specs.Same.{SameLent, SameStart, SameTimed, SameHelp}
-use Rattle.surface.specs.Chain.{rustTimed, ValueOf, rustHelper, Ends, SameReply, SameAnswer, SameCall, Unaltered, leftOn, AllSame, OwnRomAsked, OwnRom, OneRom}
+use Rattle.surface.specs.Chain.{rustTimed, ValueOf, rustHelper, LeadsTo, SameReply, SameAnswer, SameCall, Unaltered, leftOn, AllSame, OwnRomAsked, OwnRom, OneRom}
 use Rattle.surface.proofs.OnMachine.{own}
 use Rattle.surface.proofs.Judged.{settled, rom-long}
 use Rattle.surface.proofs.StartSame.{start-same}
@@ -53,7 +54,7 @@ use Rattle.surface.proofs.PartSame.{ram-page-told-same, block-told-same
 use Rattle.surface.proofs.HelperSame.{line-addr-same, line-rel-same, col-rel-same, attr-row-same, attr-col-same, from-bits-same}
 
 -- the state that a run ends in, or else c
-holder : ZXController → Run Given → ZXController
+holder : ZXController → OrPanic Given → ZXController
 holder c (done g) = g .controller
 holder c panics = c
 
@@ -95,13 +96,13 @@ module _ (rom : List ℕ) (c : ZXController) (l : Lent) (s : SameLent rom c l) w
   ram-call ram g r =
       record { bus = bus; isHeld = here .isHeld; machine = ap ourMachine (r .machine) ∙ here .machine; related = own (c .machine) rom (g .controller) (lentWorld bus (withRam l ram)) r }
 
-  told-call : (x : Run (List ℕ)) (g : Given) → rustCalls.handsOut c x ≡ done g → SameLent rom (g .controller) l
+  told-call : (x : OrPanic (List ℕ)) (g : Given) → rustCalls.handsOut c x ≡ done g → SameLent rom (g .controller) l
   unfolding holder
   told-call (done bytes) g e = subst (λ (d : ZXController). SameLent rom d l) (ap (holder c) e) here
   told-call panics g e = subst (λ (d : ZXController). SameLent rom d l) (ap (holder c) e) here
 
   -- the Rust's call that ended
-  ended : (k : rustCalls.Call) (g : Given) → rustCalls.performed k c ≡ done g → Ends k c (g .controller)
+  ended : (k : rustCalls.Call) (g : Given) → rustCalls.performed k c ≡ done g → LeadsTo k c (g .controller)
   ended k g e = record { given = g; ends = e; then = refl }
 
   -- ONE TIMED CALL, accepted.
@@ -256,6 +257,6 @@ from-start l number rom long z =
       s,
       λ cs obeyed typed first its.
           subst (AllSame rom cs (withRom rom (new (s .machine)))) (sym e)
-          (all-same rom m cs (started m) (started-sound m) (start-sized m) (subst (Obeyed cs) e obeyed) typed first its (withRom rom (new (s .machine)))
+          (all-same rom m cs (started m) (started-sound m) (started-sized m) (subst (Obeyed cs) e obeyed) typed first its (withRom rom (new (s .machine)))
           (subst (SameLent rom (withRom rom (new (s .machine)))) e (s .leaves))),
     )

@@ -15,7 +15,7 @@ use Rattle.answers.specs.Order.{Numbered}
 use Rattle.contracts.specs.Timed.{Lent, outcome}
 use Rattle.contracts.specs.Plain.{Told, told, stillPage}
 use Rattle.contracts.specs.Calls.{TimedCall, plain, mreq, noMreq, portIn, portOut, Helper, lineAddr, lineOf, columnOf, attrRowOf, attrColumnOf, colourBits, Question, byteRead, pagingRead, interruptAsked, framesAsked, pageAsked, blockAsked, shownAsked, stillAsked, help, Call, startAgain, takeTime, writeByte, writePaging, resetPassed, loadRam, ask, Result, result, causesOf, refusedFilled, lentOf, Made, buffersAfter, Each}
-use Rattle.rustzx.specs.Panics.{Run, done, onDone}
+use Rattle.rustzx.specs.Panics.{OrPanic, done, onDone}
 use Rattle.rustzx.specs.Controller.{ZXController}
 use Rattle.rustzx.specs.Calls as rust
 use Rattle.rustzx.specs.Calls.{Given, performed}
@@ -39,7 +39,7 @@ ValueOf (portIn devices port) = ItsValue
 ValueOf (portOut devices port value) = ItsValue
 
 -- the Rust's helpers, which have no controller; from_bits gives its colour by its number
-abbrev pub rustHelper : Helper → ℕ → Run ℕ
+abbrev pub rustHelper : Helper → ℕ → OrPanic ℕ
 rustHelper lineAddr n = address.bitmapLineAddr n
 rustHelper lineOf n = address.bitmapLineRel n
 rustHelper columnOf n = address.bitmapColRel n
@@ -48,7 +48,7 @@ rustHelper attrColumnOf n = address.attrColRel n
 rustHelper colourBits n = onDone (fromBits n) (λ x. done (colorByte x))
 
 -- the Rust's call ends, and its controller is then `next`
-pub record Ends (k : rust.Call) (c next : ZXController) : Type 0 where
+pub record LeadsTo (k : rust.Call) (c next : ZXController) : Type 0 where
   pub given : Given
   pub ends : performed k c ≡ done given
   pub then : given .controller ≡ next
@@ -56,13 +56,13 @@ pub record Ends (k : rust.Call) (c next : ZXController) : Type 0 where
 -- what the Rust says of an answered question. The still picture is an addition of document 01, which the Rust has not: "paints RAM page 0 (48K) or 5
 -- (128K) whole into a lent picture with a given flash bit".
 abbrev pub SameReply : List ℕ → Question → ZXController → ZXController → Lent → Told → Type 0
-SameReply rom (byteRead lent addr) c next l t = SameTold (rust.readInternal addr) c t × Ends (rust.readInternal addr) c next
-SameReply rom pagingRead c next l t = SameTold rust.read7ffd c t × Ends rust.read7ffd c next
-SameReply rom interruptAsked c next l t = SameTold rust.intActive c t × Ends rust.intActive c next
-SameReply rom framesAsked c next l t = SameTold rust.framesCount c t × Ends rust.framesCount c next
-SameReply rom (pageAsked page) c next l t = SameFound (rust.ramPageOf page) c t pageLength (rom ++ l .ram) × Ends (rust.ramPageOf page) c next
-SameReply rom (blockAsked lent block) c next l t = SameFound (rust.blockOf block) c t pageLength (rom ++ l .ram) × Ends (rust.blockOf block) c next
-SameReply rom shownAsked c next l t = SameFound rust.screenBuffer c t pictureLength (l .a ++ l .b) × Ends rust.screenBuffer c next
+SameReply rom (byteRead lent addr) c next l t = SameTold (rust.readInternal addr) c t × LeadsTo (rust.readInternal addr) c next
+SameReply rom pagingRead c next l t = SameTold rust.read7ffd c t × LeadsTo rust.read7ffd c next
+SameReply rom interruptAsked c next l t = SameTold rust.intActive c t × LeadsTo rust.intActive c next
+SameReply rom framesAsked c next l t = SameTold rust.framesCount c t × LeadsTo rust.framesCount c next
+SameReply rom (pageAsked page) c next l t = SameFound (rust.ramPageOf page) c t pageLength (rom ++ l .ram) × LeadsTo (rust.ramPageOf page) c next
+SameReply rom (blockAsked lent block) c next l t = SameFound (rust.blockOf block) c t pageLength (rom ++ l .ram) × LeadsTo (rust.blockOf block) c next
+SameReply rom shownAsked c next l t = SameFound rust.screenBuffer c t pictureLength (l .a ++ l .b) × LeadsTo rust.screenBuffer c next
 SameReply rom (stillAsked flash) c next l t =
     (t .answer ≡ blocks (ramPage (stillPage (recordOf (l .state) .machine)) (l .ram)) (eqb flash 1) 0 6144) × (next ≡ c)
 SameReply rom (help h n) c next l t = SameHelp (rustHelper h n) t × (next ≡ c)
@@ -71,11 +71,11 @@ SameReply rom (help h n) c next l t = SameHelp (rustHelper h n) t × (next ≡ c
 abbrev pub SameAnswer : List ℕ → Call → ZXController → ZXController → Lent → Result → Type 0
 SameAnswer rom (startAgain machine) c next l r = ⊥
 SameAnswer rom (takeTime t answer) c next l r =
-    SameTimed rom (rustTimed t) (ValueOf t) c (outcome (r .code) (r .slices) (r .filled)) × Ends (rustTimed t) c next
-SameAnswer rom (writeByte addr value) c next l r = Ends (rust.writeInternal addr value) c next
-SameAnswer rom (writePaging value answer) c next l r = SameTold (rust.write7ffd value) c (told (r .code) (r .filled)) × Ends (rust.write7ffd value) c next
-SameAnswer rom resetPassed c next l r = Ends rust.resetFrameCounter c next
-SameAnswer rom (loadRam bytes page) c next l r = Ends (rust.loadPage page bytes) c next
+    SameTimed rom (rustTimed t) (ValueOf t) c (outcome (r .code) (r .slices) (r .filled)) × LeadsTo (rustTimed t) c next
+SameAnswer rom (writeByte addr value) c next l r = LeadsTo (rust.writeInternal addr value) c next
+SameAnswer rom (writePaging value answer) c next l r = SameTold (rust.write7ffd value) c (told (r .code) (r .filled)) × LeadsTo (rust.write7ffd value) c next
+SameAnswer rom resetPassed c next l r = LeadsTo rust.resetFrameCounter c next
+SameAnswer rom (loadRam bytes page) c next l r = LeadsTo (rust.loadPage page bytes) c next
 SameAnswer rom (ask q out) c next l r = SameReply rom q c next l (told (r .code) (r .filled))
 
 -- an accepted call: the Rust's ends and answers the same, and the buffers hold what the Rust then holds

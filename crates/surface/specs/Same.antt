@@ -15,7 +15,7 @@ use Rattle.bus.specs.World.{World, busOf}
 use Rattle.answers.specs.Answers.{timedAnswer, numberAnswer}
 use Rattle.contracts.specs.Timed.{Lent, Outcome, lentBy, lentWorld, Started}
 use Rattle.contracts.specs.Plain.{Told}
-use Rattle.rustzx.specs.Panics.{Run, done, panics}
+use Rattle.rustzx.specs.Panics.{OrPanic, done, panics}
 use Rattle.rustzx.specs.Controller.{ZXController, new, withRom}
 use Rattle.rustzx.specs.Machine.{ZXMachine}
 use Rattle.rustzx.specs.Related.{ourMachine, Related}
@@ -99,11 +99,11 @@ pub record SameMove (rom : List ℕ) (k : Call) (c : ZXController) (after : Worl
   pub sound : Sound (busOf (ourMachine (c .machine)) after)
 
 -- a helper: a number that the Rust gives is the answer's, and where the Rust panics the call is refused by 8
-abbrev pub SameHelp : Run ℕ → Told → Type 0
+abbrev pub SameHelp : OrPanic ℕ → Told → Type 0
 SameHelp (done n) t = (t .code ≡ 0) × (t .answer ≡ numberAnswer n)
 SameHelp panics t = t .code ≡ 8
 
 -- a call by the number of a page or a block: where the Rust gives a value the call returns 0, and where the Rust panics it returns the refusal
-abbrev pub SameRefusal : ℕ → Run Given → ℕ → Type 0
+abbrev pub SameRefusal : ℕ → OrPanic Given → ℕ → Type 0
 SameRefusal refusal (done g) code = code ≡ 0
 SameRefusal refusal panics code = code ≡ refusal
