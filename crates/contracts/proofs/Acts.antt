@@ -36,12 +36,12 @@ use Rattle.bus.proofs.TimedCalls.{TimedPart, plain-timed, address-timed, read-t
 use Rattle.bus.proofs.Lengths.{SameLengths, lengths-kept, call-lengths}
 use Rattle.bus.proofs.Kept.{SoundWorld, InRange, op-kept, call-kept}
 use Rattle.bus.proofs.Reports.{call-fits}
-use Rattle.answers.specs.declared.Verdict.{Verdict}
-use Rattle.answers.specs.declared.Verdict.the-variants.{Refused, Accepted}
-use Rattle.answers.specs.Judges.{ramFits, judgeState, judgeTold, judgeWrite, judgeLoad}
-use Rattle.answers.specs.Answers.{timedAnswer}
-use Rattle.answers.specs.Order.{NoneHolds}
-use Rattle.answers.proofs.Order.{state-ordered, wait-ordered, port-ordered, told-ordered, write-ordered, load-ordered}
+use Rattle.judgement.specs.declared.Verdict.{Verdict}
+use Rattle.judgement.specs.declared.Verdict.the-variants.{Refused, Accepted}
+use Rattle.judgement.specs.Judges.{ramFits, judgeState, judgeTold, judgeWrite, judgeLoad}
+use Rattle.judgement.specs.Answers.{timedAnswer}
+use Rattle.judgement.specs.Order.{NoneHolds}
+use Rattle.judgement.proofs.Order.{state-ordered, wait-ordered, port-ordered, told-ordered, write-ordered, load-ordered}
 use Rattle.contracts.specs.Timed.{Lent, lentBy, startFitsOf, startLeaves, start, Outcome, outcome, timedCall, timedEnd, judgeWaitOf, judgePortOf, waitInternal, waitAt, readIo, writeIo}
 use Rattle.contracts.specs.Plain.{change, repage, writeInternal, write7ffdCall, resetFrames, loadPage}
 use Rattle.contracts.specs.Calls.{TimedCall, plain, mreq, noMreq, portIn, portOut, Call, startAgain, takeTime, writeByte, writePaging, resetPassed, loadRam, ask, Result, withRam, withState, waited, timedOps, timedValue, opsOf, replied, performed, timedCauses, causesOf, Typed, NotStarted}

@@ -12,8 +12,8 @@ use Rattle.record.specs.Record.{recordLength, recordOf}
 use Rattle.bus.specs.World.{World, Sized}
 use Rattle.bus.specs.Time.{worldAfter}
 use Rattle.bus.proofs.Kept.{SoundWorld}
-use Rattle.answers.specs.Judges.{ramFits}
-use Rattle.answers.specs.Order.{NoneHolds}
+use Rattle.judgement.specs.Judges.{ramFits}
+use Rattle.judgement.specs.Order.{NoneHolds}
 use Rattle.contracts.specs.Timed.{Lent, lentBy}
 use Rattle.contracts.specs.Plain.{Told, Changed, Repaged, writeInternal, write7ffdCall, resetFrames, loadPage}
 use Rattle.contracts.specs.Calls.{Call, startAgain, takeTime, writeByte, writePaging, resetPassed, loadRam, ask, Result, result, withRam, withState, opsOf, replied, performed, causesOf, refusedFilled, Typed, Portions, lentOf, handedBack, NotStarted}

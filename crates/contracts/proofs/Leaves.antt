@@ -21,13 +21,13 @@ use Rattle.memory.proofs.Places.{exists-fits, map-holds}
 use Rattle.memory.proofs.Stored.{length-part}
 use Rattle.screen.specs.declared.Helped.{Helped}
 use Rattle.screen.specs.declared.Helped.the-variants as helped
-use Rattle.answers.specs.declared.Refusal.{Refusal}
-use Rattle.answers.specs.declared.Refusal.the-variants.{BadLength, BadNumber}
-use Rattle.answers.specs.declared.Verdict.{Verdict}
-use Rattle.answers.specs.declared.Verdict.the-variants.{Refused, Accepted}
-use Rattle.answers.specs.Refusals.{refusalNumber}
-use Rattle.answers.specs.Answers.{numberAnswer, refusedAnswer, numberLength}
-use Rattle.answers.specs.Ready.{ReadyLoad, ReadyRamPage, ReadyBlock, ReadyStill}
+use Rattle.judgement.specs.declared.Refusal.{Refusal}
+use Rattle.judgement.specs.declared.Refusal.the-variants.{BadLength, BadNumber}
+use Rattle.judgement.specs.declared.Verdict.{Verdict}
+use Rattle.judgement.specs.declared.Verdict.the-variants.{Refused, Accepted}
+use Rattle.judgement.specs.Refusals.{refusalNumber}
+use Rattle.judgement.specs.Answers.{numberAnswer, refusedAnswer, numberLength}
+use Rattle.judgement.specs.Ready.{ReadyLoad, ReadyRamPage, ReadyBlock, ReadyStill}
 use Rattle.contracts.specs.Plain.{told, tell, changed, change, repaged, repage, part, stillPage}
 use Rattle.contracts.specs.Helpers.{helperCall}
 

@@ -37,13 +37,13 @@ use Rattle.bus.specs.Time.{Op, closes, inCore}
 use Rattle.bus.specs.Turns.{coreAfter, fresh, Part, andThen, ranBy}
 use Rattle.bus.specs.Calls.{contended, plainWait, delayed, addressWait, firstPart, delayStep, lastPart, finalStep, readBefore, portRead, pagingOps, actedOn, portWrite, writeCode}
 use Rattle.bus.proofs.Runs.{ran-machine, ran-core, core-then, acts-alone}
-use Rattle.answers.specs.declared.Verdict.{Verdict}
-use Rattle.answers.specs.declared.Verdict.the-variants.{Refused, Accepted}
-use Rattle.answers.specs.Judges.{judgeState, judgeTold, judgeRead, numberFits, judgeRamPage, judgeBlock}
-use Rattle.answers.specs.Answers.{numberAnswer}
-use Rattle.answers.specs.Ready.{OnRecord}
-use Rattle.answers.proofs.Order.{read-ordered, block-ordered}
-use Rattle.answers.proofs.Accepted.{ready-wait, ready-port, ready-state, ready-told, ready-read, ready-ram-page, ready-block}
+use Rattle.judgement.specs.declared.Verdict.{Verdict}
+use Rattle.judgement.specs.declared.Verdict.the-variants.{Refused, Accepted}
+use Rattle.judgement.specs.Judges.{judgeState, judgeTold, judgeRead, numberFits, judgeRamPage, judgeBlock}
+use Rattle.judgement.specs.Answers.{numberAnswer}
+use Rattle.judgement.specs.Ready.{OnRecord}
+use Rattle.judgement.proofs.Order.{read-ordered, block-ordered}
+use Rattle.judgement.proofs.Accepted.{ready-wait, ready-port, ready-state, ready-told, ready-read, ready-ram-page, ready-block}
 use Rattle.contracts.specs.Timed.{Lent, lentWorld, timedCall, judgeWaitOf, judgePortOf, waitInternal, waitAt, readIo, writeIo}
 use Rattle.contracts.specs.Plain.{told, tell, change, repage, readInternal, write7ffdCall, resetFrames, part, ramPagePart, blockPart, ramPageTold, blockTold}
 use Rattle.contracts.specs.Map.{numberIn, codeIn, Named, MapOf, counted, mapped, Alike, renews, Quiet, waited, waitedAt, readPort, wrotePort, wrote7ffd, reset, AllQuiet, last}

@@ -24,11 +24,11 @@ use Rattle.memory.specs.Memory.{Holds, ramPage, pagePart, partStart}
 use Rattle.memory.proofs.Places.{exists-fits, map-holds}
 use Rattle.memory.proofs.Stored.{length-part, part-found}
 use Rattle.bus.specs.Time.{showsA}
-use Rattle.answers.specs.declared.Verdict.{Verdict}
-use Rattle.answers.specs.declared.Verdict.the-variants.{Refused, Accepted}
-use Rattle.answers.specs.Judges.{numberFits, judgeRamPage, judgeBlock, judgeShown}
-use Rattle.answers.specs.Answers.{numberAnswer, numberLength}
-use Rattle.answers.proofs.Accepted.{ready-ram-page, ready-block, ready-shown}
+use Rattle.judgement.specs.declared.Verdict.{Verdict}
+use Rattle.judgement.specs.declared.Verdict.the-variants.{Refused, Accepted}
+use Rattle.judgement.specs.Judges.{numberFits, judgeRamPage, judgeBlock, judgeShown}
+use Rattle.judgement.specs.Answers.{numberAnswer, numberLength}
+use Rattle.judgement.proofs.Accepted.{ready-ram-page, ready-block, ready-shown}
 use Rattle.contracts.specs.Map.{numberIn}
 use Rattle.contracts.specs.Plain.{tell, part, ramPagePart, blockPart, shownPart, ramPageTold, blockTold, shownTold}
 use Rattle.contracts.proofs.Refusals.{not-zero}

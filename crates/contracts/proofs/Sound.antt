@@ -29,10 +29,10 @@ use Rattle.bus.specs.Calls.{plainWait, addressWait, portRead, portWrite}
 use Rattle.bus.proofs.Runs.{ran-machine}
 use Rattle.bus.proofs.TimedCalls.{TimedPart, plain-timed, address-timed, read-timed, write-timed}
 use Rattle.bus.proofs.Kept.{unpass-kept, call-kept}
-use Rattle.answers.specs.declared.Verdict.{Verdict}
-use Rattle.answers.specs.declared.Verdict.the-variants.{Refused, Accepted}
-use Rattle.answers.specs.Judges.{judgeState, judgeTold}
-use Rattle.answers.proofs.Accepted.{accepted-bytes, ready-wait, ready-port, ready-told, ready-state}
+use Rattle.judgement.specs.declared.Verdict.{Verdict}
+use Rattle.judgement.specs.declared.Verdict.the-variants.{Refused, Accepted}
+use Rattle.judgement.specs.Judges.{judgeState, judgeTold}
+use Rattle.judgement.proofs.Accepted.{accepted-bytes, ready-wait, ready-port, ready-told, ready-state}
 use Rattle.contracts.specs.Timed.{Lent, lentBy, lentWorld, Outcome, timedCall, judgeWaitOf, judgePortOf, waitInternal, waitAt, readIo, writeIo, startLeaves, startFitsOf, start}
 use Rattle.contracts.specs.Plain.{Changed, change, Repaged, repage, write7ffdCall, resetFrames}
 use Rattle.contracts.proofs.Refusals.{not-zero}

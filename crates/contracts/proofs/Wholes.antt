@@ -21,8 +21,8 @@ use Rattle.record.proofs.Round.{decode-encode-sound}
 use Rattle.ports.specs.Devices.{devicesLength}
 use Rattle.bus.specs.World.{World, busOf, Sized}
 use Rattle.bus.proofs.Kept.{SoundWorld}
-use Rattle.answers.specs.Judges.{ramFits, romFits, pictureFits, borderFits, timedFits, lentFit}
-use Rattle.answers.specs.Order.{NoneHolds}
+use Rattle.judgement.specs.Judges.{ramFits, romFits, pictureFits, borderFits, timedFits, lentFit}
+use Rattle.judgement.specs.Order.{NoneHolds}
 use Rattle.contracts.specs.Timed.{Lent, lentBy, readIo}
 use Rattle.contracts.specs.Plain.{readInternal, read7ffd, intActive, framesCount, ramPageTold, blockTold, shownTold, stillPicture, told}
 use Rattle.contracts.specs.Calls.{TimedCall, plain, mreq, noMreq, portIn, portOut, Question, byteRead, pagingRead, interruptAsked, framesAsked, pageAsked, blockAsked, shownAsked, stillAsked, help, Call, takeTime, writeByte, writePaging, resetPassed, loadRam, ask, replied, performed, timedCauses, questionCauses, causesOf, Portions, lend, lentOf}

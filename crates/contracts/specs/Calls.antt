@@ -17,11 +17,11 @@ use Rattle.bus.specs.Pokes.{byteWrite, pageLoad, passedReset}
 use Rattle.screen.specs.declared.Helped.{Helped}
 use Rattle.screen.specs.Address.{lineAddress, lineAt, columnAt, attributeRow, attributeColumn, isAttribute}
 use Rattle.screen.specs.Colour.{fromBits}
-use Rattle.answers.specs.declared.Refusal.the-variants.{BadMachine, BadNumber}
-use Rattle.answers.specs.Refusals.{Cause, cause}
-use Rattle.answers.specs.Judges.{numberFits, unless, noCauses, waitCauses, portCauses, toldCauses, readCauses, writeCauses, loadCauses, ramPageCauses, blockCauses, shownCauses, stillCauses}
-use Rattle.answers.specs.Answers.{timedLength, numberLength, refusedAnswer}
-use Rattle.answers.specs.Order.{allCauses}
+use Rattle.judgement.specs.declared.Refusal.the-variants.{BadMachine, BadNumber}
+use Rattle.judgement.specs.Refusals.{Cause, cause}
+use Rattle.judgement.specs.Judges.{numberFits, unless, noCauses, waitCauses, portCauses, toldCauses, readCauses, writeCauses, loadCauses, ramPageCauses, blockCauses, shownCauses, stillCauses}
+use Rattle.judgement.specs.Answers.{timedLength, numberLength, refusedAnswer}
+use Rattle.judgement.specs.Order.{allCauses}
 use Rattle.contracts.specs.Timed.{Lent, Outcome, noValue, startFitsOf, start, waitInternal, waitAt, readIo, writeIo}
 use Rattle.contracts.specs.Plain.{Told, told, readInternal, writeInternal, write7ffdCall, read7ffd, intActive, framesCount, resetFrames, loadPage, stillPicture, ramPageTold, blockTold, shownTold}
 use Rattle.contracts.specs.Helpers.{helperCall, colourHelped}

@@ -10,10 +10,10 @@ use Rattle.screen.specs.declared.Coloured.{Coloured}
 use Rattle.screen.specs.declared.Coloured.the-variants as coloured
 use Rattle.screen.specs.Address.{lineAddress, lineAt, columnAt, attributeRow, attributeColumn}
 use Rattle.screen.specs.Colour.{fromBits, colourNumber}
-use Rattle.answers.specs.declared.Refusal.the-variants.{BadLength, BadNumber}
-use Rattle.answers.specs.Refusals.{refusalNumber}
-use Rattle.answers.specs.Judges.{numberFits}
-use Rattle.answers.specs.Answers.{numberAnswer, refusedAnswer, numberLength}
+use Rattle.judgement.specs.declared.Refusal.the-variants.{BadLength, BadNumber}
+use Rattle.judgement.specs.Refusals.{refusalNumber}
+use Rattle.judgement.specs.Judges.{numberFits}
+use Rattle.judgement.specs.Answers.{numberAnswer, refusedAnswer, numberLength}
 use Rattle.contracts.specs.Plain.{Told, told}
 
 -- 01's number and values for each case of a helper's answer. "other lengths", then 8: "a helper's number outside its range"

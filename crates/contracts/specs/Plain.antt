@@ -16,11 +16,11 @@ use Rattle.memory.specs.Paging.{pageAt, write7ffd, pagedCode, pagingAfter}
 use Rattle.memory.specs.Memory.{peeked, poked, ramPage, pagePart, partStart, loaded}
 use Rattle.paint.specs.Paint.{blocks}
 use Rattle.bus.specs.Time.{showsA}
-use Rattle.answers.specs.declared.Verdict.{Verdict}
-use Rattle.answers.specs.declared.Verdict.the-variants.{Refused, Accepted}
-use Rattle.answers.specs.Refusals.{refusalNumber}
-use Rattle.answers.specs.Judges.{judgeState, judgeTold, judgeRead, judgeWrite, judgeLoad, numberFits, judgeRamPage, judgeBlock, judgeShown, judgeStill}
-use Rattle.answers.specs.Answers.{numberAnswer, refusedAnswer, numberLength}
+use Rattle.judgement.specs.declared.Verdict.{Verdict}
+use Rattle.judgement.specs.declared.Verdict.the-variants.{Refused, Accepted}
+use Rattle.judgement.specs.Refusals.{refusalNumber}
+use Rattle.judgement.specs.Judges.{judgeState, judgeTold, judgeRead, judgeWrite, judgeLoad, numberFits, judgeRamPage, judgeBlock, judgeShown, judgeStill}
+use Rattle.judgement.specs.Answers.{numberAnswer, refusedAnswer, numberLength}
 
 -- "Every call .. returns its refusal number, 0 if accepted."
 abbrev pub codeOf : Verdict → ℕ

@@ -14,12 +14,12 @@ use Rattle.ports.specs.Devices.{devicesOf}
 use Rattle.bus.specs.World.{Core, World, worldOf, busOf, started}
 use Rattle.bus.specs.Turns.{Turn, Part, fresh, ranBy}
 use Rattle.bus.specs.Calls.{plainWait, addressWait, portRead, readValue, portWrite, writeCode}
-use Rattle.answers.specs.declared.Refusal.the-variants.{BadMachine, BadLength}
-use Rattle.answers.specs.declared.Verdict.{Verdict}
-use Rattle.answers.specs.declared.Verdict.the-variants.{Refused, Accepted}
-use Rattle.answers.specs.Refusals.{refusalNumber}
-use Rattle.answers.specs.Judges.{judgeWait, judgePort, pictureFits, borderFits}
-use Rattle.answers.specs.Answers.{timedAnswer, refusedAnswer, timedLength}
+use Rattle.judgement.specs.declared.Refusal.the-variants.{BadMachine, BadLength}
+use Rattle.judgement.specs.declared.Verdict.{Verdict}
+use Rattle.judgement.specs.declared.Verdict.the-variants.{Refused, Accepted}
+use Rattle.judgement.specs.Refusals.{refusalNumber}
+use Rattle.judgement.specs.Judges.{judgeWait, judgePort, pictureFits, borderFits}
+use Rattle.judgement.specs.Answers.{timedAnswer, refusedAnswer, timedLength}
 
 -- the machine's own slices: state record, RAM, pictures A and B, border
 pub record Lent : Type 0 where

@@ -18,12 +18,12 @@ use Rattle.record.proofs.Soundness.{facts-sound}
 use Rattle.record.proofs.Round.{sound-encode, sound-fits}
 use Rattle.bus.specs.World.{World, busOf, Sized}
 use Rattle.bus.proofs.Kept.{SoundWorld}
-use Rattle.answers.specs.declared.Refusal.{Refusal}
-use Rattle.answers.specs.declared.Refusal.the-variants.{BadLength, Unsound}
-use Rattle.answers.specs.Refusals.{refusalNumber, Cause}
-use Rattle.answers.specs.Judges.{ramFits}
-use Rattle.answers.specs.Answers.{timedLength}
-use Rattle.answers.specs.Order.{NoneHolds, FirstHolds, recordCauses}
+use Rattle.judgement.specs.declared.Refusal.{Refusal}
+use Rattle.judgement.specs.declared.Refusal.the-variants.{BadLength, Unsound}
+use Rattle.judgement.specs.Refusals.{refusalNumber, Cause}
+use Rattle.judgement.specs.Judges.{ramFits}
+use Rattle.judgement.specs.Answers.{timedLength}
+use Rattle.judgement.specs.Order.{NoneHolds, FirstHolds, recordCauses}
 use Rattle.contracts.specs.Timed.{Lent, lentBy}
 use Rattle.contracts.specs.Calls.{plain, mreq, noMreq, portIn, portOut, byteRead, pagingRead, interruptAsked, framesAsked, pageAsked, blockAsked, shownAsked, stillAsked, help, Call, startAgain, takeTime, writeByte, writePaging, resetPassed, loadRam, ask, performed, waitCausesOf, causesOf, Portions, lentOf}
 use Rattle.contracts.proofs.Calls.{call-numbered}

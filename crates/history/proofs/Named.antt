@@ -16,11 +16,11 @@ use Rattle.record.proofs.Round.{sound-encode, sound-fits}
 use Rattle.bus.specs.World.{World, busOf, Sized}
 use Rattle.bus.specs.Time.{showsA, shownPicture}
 use Rattle.bus.proofs.Kept.{SoundWorld}
-use Rattle.answers.specs.declared.Verdict.{Verdict}
-use Rattle.answers.specs.declared.Verdict.the-variants.{Accepted}
-use Rattle.answers.specs.Answers.{numberLength}
-use Rattle.answers.specs.Order.{NoneHolds}
-use Rattle.answers.proofs.Order.{shown-ordered}
+use Rattle.judgement.specs.declared.Verdict.{Verdict}
+use Rattle.judgement.specs.declared.Verdict.the-variants.{Accepted}
+use Rattle.judgement.specs.Answers.{numberLength}
+use Rattle.judgement.specs.Order.{NoneHolds}
+use Rattle.judgement.proofs.Order.{shown-ordered}
 use Rattle.contracts.specs.Timed.{Lent, lentBy}
 use Rattle.contracts.specs.Plain.{part, shownPart, shownTold}
 use Rattle.contracts.specs.Calls.{shownAsked, ask, replied, performed, questionCauses}

@@ -27,7 +27,7 @@ use Rattle.bus.specs.Turns.{closedBy}
 use Rattle.bus.proofs.OneStep.{core-goes, screen-closed, screen-goes, closes-at}
 use Rattle.bus.proofs.Runs.{clocksIn, blocksIn}
 use Rattle.bus.proofs.Closing.{completed, closing-shows}
-use Rattle.answers.specs.Answers.{timedLength}
+use Rattle.judgement.specs.Answers.{timedLength}
 use Rattle.contracts.specs.Timed.{Lent, lentBy}
 use Rattle.contracts.specs.Calls.{plain, takeTime, performed, Typed, lentOf, Made, Obeyed, Each, AllTyped, NotStarted, NoSecondStart}
 use Rattle.history.specs.Log.{Shot, Frame, Shows, AllShow, follow, film}

@@ -12,7 +12,7 @@ use Rattle.machine.specs.Limits.{pictureLength, borderLength}
 use Rattle.border.specs.Edge.{Edge}
 use Rattle.bus.specs.World.{Core, World}
 use Rattle.bus.specs.Time.{Op, shownPicture, hiddenPicture, worldAfter}
-use Rattle.answers.specs.Answers.{numberLength}
+use Rattle.judgement.specs.Answers.{numberLength}
 use Rattle.contracts.specs.Timed.{lentBy}
 use Rattle.contracts.specs.Plain.{Told, shownTold}
 use Rattle.contracts.specs.Map.{numberIn}

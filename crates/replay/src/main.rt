@@ -52,7 +52,7 @@ fn play_timed(
     b: &mut [u8],
     border: &mut [u8],
 ) {
-    let mut answer = [0u8; answers::TIMED_LENGTH];
+    let mut answer = [0u8; judgement::TIMED_LENGTH];
     let before = script::byte_at(state, 17);
     let refusal = timed(call, state, devices, ram, a, b, border, &mut answer);
     let value = script::value_seen(
@@ -66,7 +66,7 @@ fn play_timed(
 }
 
 fn write_7ffd(call: Call, state: &mut [u8]) {
-    let mut answer = [0u8; answers::NUMBER_LENGTH];
+    let mut answer = [0u8; judgement::NUMBER_LENGTH];
     let before = script::byte_at(state, 17);
     let refusal = ulb_state::ulb_write_7ffd(state, call.x, &mut answer);
     if refusal == 0 {
@@ -78,7 +78,7 @@ fn write_7ffd(call: Call, state: &mut [u8]) {
 
 // Calls that answer a number of the record alone.
 fn ask_state(call: Call, state: &[u8]) {
-    let mut answer = [0u8; answers::NUMBER_LENGTH];
+    let mut answer = [0u8; judgement::NUMBER_LENGTH];
     let refusal = if call.op == b'8' {
         ulb_state::ulb_read_7ffd(state, &mut answer)
     } else if call.op == b'T' {
@@ -91,7 +91,7 @@ fn ask_state(call: Call, state: &[u8]) {
 
 // Calls that answer a number of the memory or the pictures.
 fn ask_memory(call: Call, state: &[u8], rom: &[u8], ram: &[u8], a: &[u8], b: &[u8]) {
-    let mut answer = [0u8; answers::NUMBER_LENGTH];
+    let mut answer = [0u8; judgement::NUMBER_LENGTH];
     let refusal = if call.op == b'G' {
         ulb_memory::ulb_read_internal(state, rom, ram, call.y, &mut answer)
     } else if call.op == b'Q' {
@@ -105,7 +105,7 @@ fn ask_memory(call: Call, state: &[u8], rom: &[u8], ram: &[u8], a: &[u8], b: &[u
 }
 
 fn ask_helper(call: Call) {
-    let mut answer = [0u8; answers::NUMBER_LENGTH];
+    let mut answer = [0u8; judgement::NUMBER_LENGTH];
     let refusal = if call.op == b'a' {
         ulb_helpers::ulb_bitmap_line_addr(call.z, &mut answer)
     } else if call.op == b'b' {

@@ -18,9 +18,9 @@ use Rattle.bus.specs.Time.{lasts, Op, step, colour, silent, paged, store, unpas
 use Rattle.bus.specs.Turns.{Part, fresh}
 use Rattle.bus.proofs.Runs.{ran-world}
 use Rattle.bus.proofs.TimedCalls.{AllInCall, plain-timed, address-timed, read-timed, write-timed}
-use Rattle.answers.specs.declared.Verdict.{Verdict}
-use Rattle.answers.specs.declared.Verdict.the-variants.{Refused, Accepted}
-use Rattle.answers.specs.Order.{NoneHolds}
+use Rattle.judgement.specs.declared.Verdict.{Verdict}
+use Rattle.judgement.specs.declared.Verdict.the-variants.{Refused, Accepted}
+use Rattle.judgement.specs.Order.{NoneHolds}
 use Rattle.contracts.specs.Timed.{Lent, lentWorld, lent, Outcome, outcome, timedCall, judgeWaitOf, judgePortOf, waitInternal, waitAt, readIo, writeIo}
 use Rattle.contracts.specs.Calls.{TimedCall, plain, mreq, noMreq, portIn, portOut, Helper, lineAddr, lineOf, columnOf, attrRowOf, attrColumnOf, colourBits, Question, byteRead, pagingRead, interruptAsked, framesAsked, pageAsked, blockAsked, shownAsked, stillAsked, help, Call, startAgain, takeTime, writeByte, writePaging, resetPassed, loadRam, ask, Result, waited, timedOps, timedValue, helpedBy, replied, performed, timedCauses, TypedQuestion, Typed}
 use Rattle.contracts.specs.Helpers.{helperCall}

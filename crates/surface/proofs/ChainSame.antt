@@ -24,11 +24,11 @@ use Rattle.bus.specs.World.{World, busOf, started, Sized}
 use Rattle.bus.specs.Time.{worldAfter}
 use Rattle.bus.proofs.Lengths.{started-sized}
 use Rattle.bus.proofs.Kept.{SoundWorld, started-sound}
-use Rattle.answers.specs.declared.Verdict.the-variants.{Accepted}
-use Rattle.answers.specs.Judges.{romFits, judgeStill}
-use Rattle.answers.specs.Answers.{numberLength}
-use Rattle.answers.specs.Order.{NoneHolds, Numbered}
-use Rattle.answers.proofs.Order.{state-ordered, wait-ordered, port-ordered, told-ordered, read-ordered, write-ordered, load-ordered, still-ordered}
+use Rattle.judgement.specs.declared.Verdict.the-variants.{Accepted}
+use Rattle.judgement.specs.Judges.{romFits, judgeStill}
+use Rattle.judgement.specs.Answers.{numberLength}
+use Rattle.judgement.specs.Order.{NoneHolds, Numbered}
+use Rattle.judgement.proofs.Order.{state-ordered, wait-ordered, port-ordered, told-ordered, read-ordered, write-ordered, load-ordered, still-ordered}
 use Rattle.contracts.specs.Timed.{Lent, lentBy, Outcome, lentWorld, judgeWaitOf, judgePortOf, start}
 use Rattle.contracts.specs.Plain.{Told, told, stillPage, stillPicture}
 use Rattle.contracts.specs.Helpers.{helperCall}

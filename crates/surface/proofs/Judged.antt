@@ -16,12 +16,12 @@ use Rattle.record.specs.Sound.{Sound}
 use Rattle.record.proofs.Soundness.{sound-facts}
 use Rattle.record.proofs.Round.{held-decode, held-sound}
 use Rattle.memory.specs.Paging.{pageExists}
-use Rattle.answers.specs.declared.Refusal.{Refusal}
-use Rattle.answers.specs.declared.Refusal.the-variants.{BadPage, BadNumber}
-use Rattle.answers.specs.declared.Verdict.{Verdict}
-use Rattle.answers.specs.declared.Verdict.the-variants.{Refused, Accepted}
-use Rattle.answers.specs.Refusals.{cause, judged}
-use Rattle.answers.specs.Judges.{ramFits, romFits, unless, judgeLoad, judgeRamPage, judgeBlock}
+use Rattle.judgement.specs.declared.Refusal.{Refusal}
+use Rattle.judgement.specs.declared.Refusal.the-variants.{BadPage, BadNumber}
+use Rattle.judgement.specs.declared.Verdict.{Verdict}
+use Rattle.judgement.specs.declared.Verdict.the-variants.{Refused, Accepted}
+use Rattle.judgement.specs.Refusals.{cause, judged}
+use Rattle.judgement.specs.Judges.{ramFits, romFits, unless, judgeLoad, judgeRamPage, judgeBlock}
 use Rattle.contracts.specs.Timed.{Lent, lentWorld}
 use Rattle.contracts.specs.Plain.{codeOf, tell, change}
 use Rattle.rustzx.specs.Controller.{ZXController}

@@ -13,12 +13,12 @@ use Rattle.machine.specs.Numbers.{specsOf}
 use Rattle.record.specs.declared.Bus.{Bus}
 use Rattle.memory.specs.Paging.{pageExists}
 use Rattle.bus.specs.World.{World}
-use Rattle.answers.specs.declared.Refusal.{Refusal}
-use Rattle.answers.specs.declared.Refusal.the-variants.{BadPage, BadNumber}
-use Rattle.answers.specs.declared.Verdict.{Verdict}
-use Rattle.answers.specs.declared.Verdict.the-variants.{Refused, Accepted}
-use Rattle.answers.specs.Refusals.{refusalNumber}
-use Rattle.answers.specs.Judges.{numberFits, judgeLoad, judgeRamPage, judgeBlock}
+use Rattle.judgement.specs.declared.Refusal.{Refusal}
+use Rattle.judgement.specs.declared.Refusal.the-variants.{BadPage, BadNumber}
+use Rattle.judgement.specs.declared.Verdict.{Verdict}
+use Rattle.judgement.specs.declared.Verdict.the-variants.{Refused, Accepted}
+use Rattle.judgement.specs.Refusals.{refusalNumber}
+use Rattle.judgement.specs.Judges.{numberFits, judgeLoad, judgeRamPage, judgeBlock}
 use Rattle.contracts.specs.Timed.{Lent, lentWorld}
 use Rattle.contracts.specs.Plain as ulb
 use Rattle.rustzx.specs.Panics.{panics}

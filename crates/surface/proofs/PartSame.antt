@@ -12,9 +12,9 @@ use Rattle.memory.specs.declared.Page.the-variants as page
 use Rattle.memory.specs.Paging.{pageAt}
 use Rattle.memory.specs.Memory.{partStart}
 use Rattle.bus.specs.Time.{showsA}
-use Rattle.answers.specs.Judges.{numberFits}
-use Rattle.answers.proofs.Order.{ram-page-ordered, block-ordered, shown-ordered}
-use Rattle.answers.proofs.Accepted.{ready-ram-page, ready-block, ready-shown}
+use Rattle.judgement.specs.Judges.{numberFits}
+use Rattle.judgement.proofs.Order.{ram-page-ordered, block-ordered, shown-ordered}
+use Rattle.judgement.proofs.Accepted.{ready-ram-page, ready-block, ready-shown}
 use Rattle.contracts.specs.Timed.{Lent}
 use Rattle.contracts.specs.Plain as ulb
 use Rattle.contracts.proofs.Refusals.{ram-page-numbered, block-numbered, shown-picture-numbered}

@@ -19,9 +19,9 @@ use Rattle.bus.specs.Calls.{plainWait, addressWait, portRead, readValue, portWr
 use Rattle.bus.proofs.Runs.{ran-machine}
 use Rattle.bus.proofs.Kept.{SoundWorld}
 use Rattle.bus.proofs.TimedCalls.{TimedPart, plain-timed, address-timed, read-timed, write-timed}
-use Rattle.answers.specs.declared.Verdict.{Verdict}
-use Rattle.answers.specs.declared.Verdict.the-variants.{Accepted}
-use Rattle.answers.proofs.Accepted.{ready-wait, ready-port}
+use Rattle.judgement.specs.declared.Verdict.{Verdict}
+use Rattle.judgement.specs.declared.Verdict.the-variants.{Accepted}
+use Rattle.judgement.proofs.Accepted.{ready-wait, ready-port}
 use Rattle.contracts.specs.Timed as ulb
 use Rattle.contracts.specs.Timed.{Lent, lentBy, lentWorld, timedCall, noValue, judgeWaitOf, judgePortOf}
 use Rattle.rustzx.specs.Controller.{ZXController}

@@ -11,7 +11,7 @@ use Rattle.paint.specs.Paint.{blocks}
 use Rattle.memory.specs.Memory.{ramPage}
 use Rattle.ports.specs.Devices.{devicesOf}
 use Rattle.record.specs.Record.{recordOf}
-use Rattle.answers.specs.Order.{Numbered}
+use Rattle.judgement.specs.Order.{Numbered}
 use Rattle.contracts.specs.Timed.{Lent, outcome}
 use Rattle.contracts.specs.Plain.{Told, told, stillPage}
 use Rattle.contracts.specs.Calls.{TimedCall, plain, mreq, noMreq, portIn, portOut, Helper, lineAddr, lineOf, columnOf, attrRowOf, attrColumnOf, colourBits, Question, byteRead, pagingRead, interruptAsked, framesAsked, pageAsked, blockAsked, shownAsked, stillAsked, help, Call, startAgain, takeTime, writeByte, writePaging, resetPassed, loadRam, ask, Result, result, causesOf, refusedFilled, lentOf, Made, buffersAfter, Each}

@@ -12,7 +12,7 @@ use Rattle.record.specs.Words.{longAt}
 use Rattle.record.specs.Record.{machineNumber, heldBy}
 use Rattle.record.specs.Sound.{Sound}
 use Rattle.bus.specs.World.{World, busOf}
-use Rattle.answers.specs.Answers.{timedAnswer, numberAnswer}
+use Rattle.judgement.specs.Answers.{timedAnswer, numberAnswer}
 use Rattle.contracts.specs.Timed.{Lent, Outcome, lentBy, lentWorld, Started}
 use Rattle.contracts.specs.Plain.{Told}
 use Rattle.rustzx.specs.Panics.{OrPanic, done, panics}

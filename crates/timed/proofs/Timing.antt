@@ -17,12 +17,12 @@ use Rattle.bus.specs.World.{Core, worldOf}
 use Rattle.bus.specs.Turns.{Turn, Part, fresh, ranBy}
 use Rattle.steps.specs.Turned.{turnOf, coreOf, Ready}
 use Rattle.bus.proofs.OneStep.{frame-long}
-use Rattle.answers.specs.declared.Refusal.{Refusal}
-use Rattle.answers.specs.declared.Verdict.{Verdict}
-use Rattle.answers.specs.declared.Verdict.the-variants.{Refused, Accepted}
-use Rattle.answers.specs.Refusals.{refusalNumber}
-use Rattle.answers.specs.Answers.{timedAnswer, refusedAnswer}
-use Rattle.answers.specs.Ready.{Fit, ReadyWait, ReadyPort}
+use Rattle.judgement.specs.declared.Refusal.{Refusal}
+use Rattle.judgement.specs.declared.Verdict.{Verdict}
+use Rattle.judgement.specs.declared.Verdict.the-variants.{Refused, Accepted}
+use Rattle.judgement.specs.Refusals.{refusalNumber}
+use Rattle.judgement.specs.Answers.{timedAnswer, refusedAnswer}
+use Rattle.judgement.specs.Ready.{Fit, ReadyWait, ReadyPort}
 use Rattle.contracts.specs.Timed.{Lent, lent, lentWorld, outcome, timedEnd, timedCall}
 
 -- clocks since the start have room for one call more, if passed frames are below their last number

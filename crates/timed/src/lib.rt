@@ -1,12 +1,12 @@
 // What it is: the end of an accepted timed call: the record and the answer are written.
 // What it promises: the record's bytes are those of the turn's record, all of them or only those that have moved, and the answer has the turn's reports.
-// Where its definitions stand: crate record, specs/Record.antt (the bytes); crate answers, specs/Answers.antt (the answer); what a timed call does when it is refused or accepted, for each of the C crates, in proofs/Timing.antt.
+// Where its definitions stand: crate record, specs/Record.antt (the bytes); crate judgement, specs/Answers.antt (the answer); what a timed call does when it is refused or accepted, for each of the C crates, in proofs/Timing.antt.
 ghost use mathlib.Core.Path.{_≡_};
 ghost use mathlib.Core.Bool.{false};
 ghost use lib.ListN.{length};
 ghost use Rattle.machine.specs.Timing.{interrupt};
 ghost use Rattle.record.specs.Record.{recordBytes, recordLength, advanced};
-ghost use Rattle.answers.specs.Answers.{timedAnswer, timedLength};
+ghost use Rattle.judgement.specs.Answers.{timedAnswer, timedLength};
 use steps::Turning;
 
 // The answer of a turn.
@@ -16,7 +16,7 @@ fn tell(t: Turning, value: u8, answer: &mut [u8])
 {
     let bus = t.bus;
     let interrupt = machine::int_active(bus.clock);
-    answers::fill_timed(answer, value, t.closed, interrupt, t.clocks, t.blocks);
+    judgement::fill_timed(answer, value, t.closed, interrupt, t.clocks, t.blocks);
 }
 
 // The end of a call that may have changed any field.

@@ -4,7 +4,7 @@
 ghost use mathlib.Core.Path.{_≡_};
 ghost use Rattle.contracts.specs.Plain.{told};
 ghost use Rattle.contracts.specs.Helpers.{colourHelped, helperCall, bitmapLineAddr, bitmapLineRel, bitmapColRel, attrRowRel, attrColRel, colorFromBits};
-use answers::Refusal;
+use judgement::Refusal;
 use screen::Coloured;
 use screen::Helped;
 use screen::ZXColor;
@@ -13,20 +13,20 @@ use screen::ZXColor;
 fn help(h: Helped, answer: &mut [u8]) -> u8
     ensures { λ r. ⌜ told r (now (answer .exit)) ≡ helperCall h (now (answer .entry)) ⌝ }
 {
-    if answer.len() == answers::NUMBER_LENGTH {
+    if answer.len() == judgement::NUMBER_LENGTH {
         match h {
             Helped::Number(n) => {
-                answers::fill_number(answer, n);
+                judgement::fill_number(answer, n);
                 0
             }
-            Helped::OutOfRange => answers::refuse(
+            Helped::OutOfRange => judgement::refuse(
                 answer,
-                answers::NUMBER_LENGTH,
+                judgement::NUMBER_LENGTH,
                 Refusal::BadNumber,
             ),
         }
     } else {
-        answers::number(Refusal::BadLength)
+        judgement::number(Refusal::BadLength)
     }
 }
 

@@ -3,7 +3,7 @@
 // Where its definitions stand: crate contracts, specs/Plain.antt.
 ghost use mathlib.Core.Path.{_≡_};
 ghost use Rattle.contracts.specs.Plain.{told, changed, readInternal, loadPage, ramPageTold, blockTold, ramPagePart, blockPart};
-use answers::Verdict;
+use judgement::Verdict;
 use memory::Page;
 
 // Byte read.
@@ -17,13 +17,13 @@ pub extern "C" fn ulb_read_internal(
 ) -> u8
     ensures { λ r. ⌜ told r (now (answer .exit)) ≡ readInternal (now (state .entry)) (now (rom .entry)) (now (ram .entry)) addr (now (answer .entry)) ⌝ }
 {
-    let v = answers::judge_read(state, rom.len(), ram.len(), answer.len());
+    let v = judgement::judge_read(state, rom.len(), ram.len(), answer.len());
     match v {
-        Verdict::Refused(e) => answers::refuse(answer, answers::NUMBER_LENGTH, e),
+        Verdict::Refused(e) => judgement::refuse(answer, judgement::NUMBER_LENGTH, e),
         Verdict::Accepted(bus) => {
             let m = bus.machine;
             let value = memory::read(m, bus.paging, rom, ram, addr);
-            answers::fill_number(answer, value as u32);
+            judgement::fill_number(answer, value as u32);
             0
         }
     }
@@ -34,9 +34,9 @@ pub extern "C" fn ulb_read_internal(
 pub extern "C" fn ulb_load_page(state: &[u8], ram: &mut [u8], src: &[u8], page: u32) -> u8
     ensures { λ r. ⌜ changed r (now (ram .exit)) ≡ loadPage (now (state .entry)) (now (ram .entry)) (now (src .entry)) page ⌝ }
 {
-    let v = answers::judge_load(state, ram.len(), src.len(), page);
+    let v = judgement::judge_load(state, ram.len(), src.len(), page);
     match v {
-        Verdict::Refused(e) => answers::number(e),
+        Verdict::Refused(e) => judgement::number(e),
         Verdict::Accepted(_) => {
             memory::load_page(ram, page, src);
             0
@@ -48,14 +48,14 @@ pub extern "C" fn ulb_load_page(state: &[u8], ram: &mut [u8], src: &[u8], page: 
 pub extern "C" fn ulb_ram_page(state: &[u8], ram: &[u8], page: u32, answer: &mut [u8]) -> u8
     ensures { λ r. ⌜ told r (now (answer .exit)) ≡ ramPageTold (now (state .entry)) (now (ram .entry)) page (now (answer .entry)) ⌝ }
 {
-    let v = answers::judge_ram_page(state, ram.len(), page, answer.len());
+    let v = judgement::judge_ram_page(state, ram.len(), page, answer.len());
     match v {
-        Verdict::Refused(e) => answers::refuse(answer, answers::NUMBER_LENGTH, e),
+        Verdict::Refused(e) => judgement::refuse(answer, judgement::NUMBER_LENGTH, e),
         Verdict::Accepted(bus) => {
             let m = bus.machine;
             let number = page as u8;
             let start = memory::part_start(m, Page::Ram(number));
-            answers::fill_number(answer, start);
+            judgement::fill_number(answer, start);
             0
         }
     }
@@ -71,14 +71,14 @@ pub extern "C" fn ulb_block(
 ) -> u8
     ensures { λ r. ⌜ told r (now (answer .exit)) ≡ blockTold (now (state .entry)) (now (rom .entry)) (now (ram .entry)) block (now (answer .entry)) ⌝ }
 {
-    let v = answers::judge_block(state, rom.len(), ram.len(), block, answer.len());
+    let v = judgement::judge_block(state, rom.len(), ram.len(), block, answer.len());
     match v {
-        Verdict::Refused(e) => answers::refuse(answer, answers::NUMBER_LENGTH, e),
+        Verdict::Refused(e) => judgement::refuse(answer, judgement::NUMBER_LENGTH, e),
         Verdict::Accepted(bus) => {
             let m = bus.machine;
             let page = memory::get_bank_type(m, bus.paging, block);
             let start = memory::part_start(m, page);
-            answers::fill_number(answer, start);
+            judgement::fill_number(answer, start);
             0
         }
     }
@@ -88,7 +88,7 @@ pub extern "C" fn ulb_block(
 pub fn ram_page<'a>(state: &[u8], ram: &'a [u8], page: u32) -> &'a [u8]
     ensures { λ r. ⌜ now r ≡ ramPagePart (now (state .entry)) (now (ram .entry)) page ⌝ }
 {
-    let v = answers::judge_ram_page(state, ram.len(), page, answers::NUMBER_LENGTH);
+    let v = judgement::judge_ram_page(state, ram.len(), page, judgement::NUMBER_LENGTH);
     match v {
         Verdict::Refused(_) => &ram[..0],
         Verdict::Accepted(_) => memory::ram_page_data(ram, page),
@@ -99,7 +99,7 @@ pub fn ram_page<'a>(state: &[u8], ram: &'a [u8], page: u32) -> &'a [u8]
 pub fn block<'a>(state: &[u8], rom: &'a [u8], ram: &'a [u8], block: u32) -> &'a [u8]
     ensures { λ r. ⌜ now r ≡ blockPart (now (state .entry)) (now (rom .entry)) (now (ram .entry)) block ⌝ }
 {
-    let v = answers::judge_block(state, rom.len(), ram.len(), block, answers::NUMBER_LENGTH);
+    let v = judgement::judge_block(state, rom.len(), ram.len(), block, judgement::NUMBER_LENGTH);
     match v {
         Verdict::Refused(_) => &rom[..0],
         Verdict::Accepted(bus) => {

@@ -6,19 +6,19 @@ ghost use mathlib.Core.Bool.{cond};
 ghost use Rattle.bus.specs.Time.{showsA};
 ghost use Rattle.contracts.specs.Plain.{told, changed, stillPage, shownTold, stillPicture, shownPart};
 ghost use Rattle.machine.specs.Limits.{pictureLength};
-use answers::Verdict;
+use judgement::Verdict;
 use machine::ZXMachine;
 
 #[no_mangle]
 pub extern "C" fn ulb_shown_picture(state: &[u8], a: &[u8], b: &[u8], answer: &mut [u8]) -> u8
     ensures { λ r. ⌜ told r (now (answer .exit)) ≡ shownTold (now (state .entry)) (now (a .entry)) (now (b .entry)) (now (answer .entry)) ⌝ }
 {
-    let v = answers::judge_shown(state, a.len(), b.len(), answer.len());
+    let v = judgement::judge_shown(state, a.len(), b.len(), answer.len());
     match v {
-        Verdict::Refused(e) => answers::refuse(answer, answers::NUMBER_LENGTH, e),
+        Verdict::Refused(e) => judgement::refuse(answer, judgement::NUMBER_LENGTH, e),
         Verdict::Accepted(bus) => {
             let start = shown_start(bus.phase);
-            answers::fill_number(answer, start);
+            judgement::fill_number(answer, start);
             0
         }
     }
@@ -39,7 +39,7 @@ fn shown_start(phase: u8) -> u32
 pub fn shown_picture<'a>(state: &[u8], a: &'a [u8], b: &'a [u8]) -> &'a [u8]
     ensures { λ r. ⌜ now r ≡ shownPart (now (state .entry)) (now (a .entry)) (now (b .entry)) ⌝ }
 {
-    let v = answers::judge_shown(state, a.len(), b.len(), answers::NUMBER_LENGTH);
+    let v = judgement::judge_shown(state, a.len(), b.len(), judgement::NUMBER_LENGTH);
     match v {
         Verdict::Refused(_) => &a[..0],
         Verdict::Accepted(bus) => { if bus.phase % 2 == 0 { a } else { b } }
@@ -59,9 +59,9 @@ fn still_page(m: ZXMachine) -> u32
 pub extern "C" fn ulb_still_picture(state: &[u8], ram: &[u8], picture: &mut [u8], flash: u32) -> u8
     ensures { λ r. ⌜ changed r (now (picture .exit)) ≡ stillPicture (now (state .entry)) (now (ram .entry)) (now (picture .entry)) flash ⌝ }
 {
-    let v = answers::judge_still(state, ram.len(), picture.len(), flash);
+    let v = judgement::judge_still(state, ram.len(), picture.len(), flash);
     match v {
-        Verdict::Refused(e) => answers::number(e),
+        Verdict::Refused(e) => judgement::number(e),
         Verdict::Accepted(bus) => {
             let m = bus.machine;
             let page = memory::ram_page_data(ram, still_page(m));

@@ -3,7 +3,7 @@
 // Where its definitions stand: crate contracts, specs/Timed.antt.
 ghost use mathlib.Core.Path.{_≡_};
 ghost use Rattle.contracts.specs.Timed.{lent, outcome, readIo};
-use answers::Verdict;
+use judgement::Verdict;
 
 // A port read.
 #[no_mangle]
@@ -22,7 +22,7 @@ pub extern "C" fn ulb_read_io(
         (now (answer .exit))
         ≡ readIo (lent (now (state .entry)) (now (ram .entry)) (now (a .entry)) (now (b .entry)) (now (border .entry))) (now (devices .entry)) port (now (answer .entry)) ⌝ }
 {
-    let v = answers::judge_port(
+    let v = judgement::judge_port(
         state,
         devices,
         ram.len(),
@@ -32,7 +32,7 @@ pub extern "C" fn ulb_read_io(
         answer.len(),
     );
     match v {
-        Verdict::Refused(e) => answers::refuse(answer, answers::TIMED_LENGTH, e),
+        Verdict::Refused(e) => judgement::refuse(answer, judgement::TIMED_LENGTH, e),
         Verdict::Accepted(held) => {
             let begun = steps::begun(held);
             let devices = ports::devices_from(devices);

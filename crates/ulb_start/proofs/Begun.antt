@@ -13,8 +13,8 @@ use Rattle.machine.specs.Numbers.{specsOf}
 use Rattle.record.specs.declared.Bus.{Bus}
 use Rattle.record.specs.Record.{recordBytes, recordLength, machineOf, startRecord}
 use Rattle.bus.specs.World.{clearRam, clearPicture, clearBorder}
-use Rattle.answers.specs.declared.Refusal.the-variants.{BadMachine, BadLength}
-use Rattle.answers.specs.Refusals.{refusalNumber}
+use Rattle.judgement.specs.declared.Refusal.the-variants.{BadMachine, BadLength}
+use Rattle.judgement.specs.Refusals.{refusalNumber}
 use Rattle.contracts.specs.Timed.{Lent, lent, startLeaves, startFitsOf, start}
 
 -- zeros as many as the start asks for

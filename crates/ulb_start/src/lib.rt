@@ -3,7 +3,7 @@
 // Where its definitions stand: crate contracts, specs/Timed.antt.
 ghost use mathlib.Core.Path.{_≡_};
 ghost use Rattle.contracts.specs.Timed.{lent, startFits, startLeaves, start};
-use answers::Refusal;
+use judgement::Refusal;
 use machine::ZXMachine;
 
 fn start_fits(m: ZXMachine, state: usize, ram: usize, a: usize, b: usize, border: usize) -> bool
@@ -32,17 +32,17 @@ pub extern "C" fn ulb_start(
         ≡ start (lent (now (state .entry)) (now (ram .entry)) (now (a .entry)) (now (b .entry)) (now (border .entry))) machine ⌝ }
 {
     if 1 < machine {
-        return answers::number(Refusal::BadMachine);
+        return judgement::number(Refusal::BadMachine);
     }
     let m = record::machine_from(machine as u8);
     if start_fits(m, state.len(), ram.len(), a.len(), b.len(), border.len()) {
-        answers::clear(ram);
-        answers::clear(a);
-        answers::clear(b);
-        answers::clear(border);
+        judgement::clear(ram);
+        judgement::clear(a);
+        judgement::clear(b);
+        judgement::clear(border);
         record::encode(state, record::start_record(m));
         0
     } else {
-        answers::number(Refusal::BadLength)
+        judgement::number(Refusal::BadLength)
     }
 }

@@ -3,7 +3,7 @@
 // Where its definitions stand: crate contracts, specs/Timed.antt.
 ghost use mathlib.Core.Path.{_≡_};
 ghost use Rattle.contracts.specs.Timed.{lent, outcome, waitInternal};
-use answers::Verdict;
+use judgement::Verdict;
 
 // The plain wait.
 #[no_mangle]
@@ -21,7 +21,7 @@ pub extern "C" fn ulb_wait_internal(
         (now (answer .exit))
         ≡ waitInternal (lent (now (state .entry)) (now (ram .entry)) (now (a .entry)) (now (b .entry)) (now (border .entry))) clocks (now (answer .entry)) ⌝ }
 {
-    let v = answers::judge_wait(
+    let v = judgement::judge_wait(
         state,
         ram.len(),
         a.len(),
@@ -31,7 +31,7 @@ pub extern "C" fn ulb_wait_internal(
         answer.len(),
     );
     match v {
-        Verdict::Refused(e) => answers::refuse(answer, answers::TIMED_LENGTH, e),
+        Verdict::Refused(e) => judgement::refuse(answer, judgement::TIMED_LENGTH, e),
         Verdict::Accepted(held) => {
             let begun = steps::begun(held);
             let turn = steps::wait_internal(begun, clocks, ram, a, b, border);

@@ -3,7 +3,7 @@
 // Where its definitions stand: crate contracts, specs/Timed.antt.
 ghost use mathlib.Core.Path.{_≡_};
 ghost use Rattle.contracts.specs.Timed.{lent, outcome, waitAt};
-use answers::Verdict;
+use judgement::Verdict;
 
 // A wait at an address with a memory request.
 #[no_mangle]
@@ -22,7 +22,7 @@ pub extern "C" fn ulb_wait_mreq(
         (now (answer .exit))
         ≡ waitAt (lent (now (state .entry)) (now (ram .entry)) (now (a .entry)) (now (b .entry)) (now (border .entry))) addr clocks (now (answer .entry)) ⌝ }
 {
-    let v = answers::judge_wait(
+    let v = judgement::judge_wait(
         state,
         ram.len(),
         a.len(),
@@ -32,7 +32,7 @@ pub extern "C" fn ulb_wait_mreq(
         answer.len(),
     );
     match v {
-        Verdict::Refused(e) => answers::refuse(answer, answers::TIMED_LENGTH, e),
+        Verdict::Refused(e) => judgement::refuse(answer, judgement::TIMED_LENGTH, e),
         Verdict::Accepted(held) => {
             let begun = steps::begun(held);
             let turn = contention::wait_mreq(begun, addr, clocks, ram, a, b, border);

@@ -3,16 +3,16 @@
 // Where its definitions stand: crate contracts, specs/Plain.antt.
 ghost use mathlib.Core.Path.{_≡_};
 ghost use Rattle.contracts.specs.Plain.{changed, writeInternal};
-use answers::Verdict;
+use judgement::Verdict;
 
 // Byte write.
 #[no_mangle]
 pub extern "C" fn ulb_write_internal(state: &[u8], ram: &mut [u8], addr: u16, value: u8) -> u8
     ensures { λ r. ⌜ changed r (now (ram .exit)) ≡ writeInternal (now (state .entry)) (now (ram .entry)) addr value ⌝ }
 {
-    let v = answers::judge_write(state, ram.len());
+    let v = judgement::judge_write(state, ram.len());
     match v {
-        Verdict::Refused(e) => answers::number(e),
+        Verdict::Refused(e) => judgement::number(e),
         Verdict::Accepted(bus) => {
             let m = bus.machine;
             memory::write(m, bus.paging, ram, addr, value);

@@ -3,7 +3,7 @@
 // Where its definitions stand: crate contracts, specs/Timed.antt.
 ghost use mathlib.Core.Path.{_≡_};
 ghost use Rattle.contracts.specs.Timed.{lent, outcome, writeIo};
-use answers::Verdict;
+use judgement::Verdict;
 
 // A port write.
 #[no_mangle]
@@ -23,7 +23,7 @@ pub extern "C" fn ulb_write_io(
         (now (answer .exit))
         ≡ writeIo (lent (now (state .entry)) (now (ram .entry)) (now (a .entry)) (now (b .entry)) (now (border .entry))) (now (devices .entry)) port value (now (answer .entry)) ⌝ }
 {
-    let v = answers::judge_port(
+    let v = judgement::judge_port(
         state,
         devices,
         ram.len(),
@@ -33,7 +33,7 @@ pub extern "C" fn ulb_write_io(
         answer.len(),
     );
     match v {
-        Verdict::Refused(cause) => answers::refuse(answer, answers::TIMED_LENGTH, cause),
+        Verdict::Refused(cause) => judgement::refuse(answer, judgement::TIMED_LENGTH, cause),
         Verdict::Accepted(held) => {
             let begun = steps::begun(held);
             let devices = ports::devices_from(devices);

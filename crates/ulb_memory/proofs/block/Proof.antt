@@ -1,7 +1,7 @@
 -- Refused: an empty part. Accepted: the part that the definition gives for the record.
 -- Assumes nothing.
 use mathlib.Core.Path.{sym, _∙_}
-use Rattle.answers.proofs.Accepted.{ready-block}
+use Rattle.judgement.proofs.Accepted.{ready-block}
 use Rattle.contracts.specs.Plain.{blockPart}
 use Rattle.contracts.proofs.Leaves.{part-refused, part-accepted, block-holds}
 use borrow.Author.Needs.{needs}

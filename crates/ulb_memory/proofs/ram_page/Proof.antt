@@ -1,7 +1,7 @@
 -- Refused: an empty part. Accepted: the part that the definition gives for the record.
 -- Assumes nothing.
 use mathlib.Core.Path.{sym, _∙_}
-use Rattle.answers.proofs.Accepted.{ready-ram-page}
+use Rattle.judgement.proofs.Accepted.{ready-ram-page}
 use Rattle.contracts.specs.Plain.{ramPagePart}
 use Rattle.contracts.proofs.Leaves.{part-refused, part-accepted, page-fits}
 use borrow.Author.Needs.{needs}

@@ -4,7 +4,7 @@ use native.Mathlib.Omega.{arith}
 use Rattle.contracts.proofs.Leaves.{page-small}
 use borrow.Author.Tests.{eqb-true}
 use mathlib.Core.Path.{sym, _∙_}
-use Rattle.answers.proofs.Accepted.{ready-ram-page}
+use Rattle.judgement.proofs.Accepted.{ready-ram-page}
 use Rattle.contracts.specs.Plain.{ramPageTold}
 use Rattle.contracts.proofs.Leaves.{told-refused, told-accepted}
 use borrow.Author.Needs.{needs}

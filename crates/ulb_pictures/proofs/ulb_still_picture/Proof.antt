@@ -1,7 +1,7 @@
 -- Refused: the slice is not written. Accepted: the lengths were judged, and what the callee leaves is what the definition gives for the record.
 -- Assumes nothing.
 use mathlib.Core.Path.{sym, _∙_}
-use Rattle.answers.proofs.Accepted.{ready-still}
+use Rattle.judgement.proofs.Accepted.{ready-still}
 use Rattle.contracts.specs.Plain.{stillPicture}
 use Rattle.contracts.proofs.Leaves.{changed-refused, changed-accepted, still-fits, page-long}
 use borrow.Author.Needs.{needs}

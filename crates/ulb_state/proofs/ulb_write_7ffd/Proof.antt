@@ -1,7 +1,7 @@
 -- Refused: the record is not written. Accepted: the record is written with the byte that is then held, and the answer with the write's code.
 -- Assumes nothing.
 use mathlib.Core.Path.{refl, sym, _∙_}
-use Rattle.answers.proofs.Accepted.{ready-told}
+use Rattle.judgement.proofs.Accepted.{ready-told}
 use Rattle.contracts.specs.Plain.{write7ffdCall}
 use Rattle.contracts.proofs.Leaves.{repaged-refused, repaged-accepted}
 use borrow.Author.Needs.{needs}

@@ -2,7 +2,7 @@
 -- answer of the turn that it reached.
 -- Assumes nothing.
 use native.Mathlib.Omega.{arith}
-use Rattle.answers.proofs.Accepted.{ready-wait, accepted-bytes}
+use Rattle.judgement.proofs.Accepted.{ready-wait, accepted-bytes}
 use Rattle.timed.proofs.Moved.{plain-step, step-bytes}
 use mathlib.Core.Path.{refl, sym, _∙_}
 use denote.Ref.{now}

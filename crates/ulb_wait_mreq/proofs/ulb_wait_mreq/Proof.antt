@@ -3,7 +3,7 @@
 -- Assumes nothing.
 use native.Mathlib.Omega.{arith}
 use Prim.Native.Nat.{_+_}
-use Rattle.answers.proofs.Accepted.{ready-wait, accepted-bytes}
+use Rattle.judgement.proofs.Accepted.{ready-wait, accepted-bytes}
 use Rattle.timed.proofs.Moved.{address-step, step-bytes}
 use mathlib.Core.Path.{refl, sym, _∙_}
 use denote.Ref.{now}

@@ -3,7 +3,7 @@
 use mathlib.Core.Path.{sym, _∙_}
 use Rattle.contracts.specs.Plain.{writeInternal}
 use Rattle.contracts.proofs.Leaves.{changed-refused, changed-accepted}
-use Rattle.answers.proofs.Accepted.{ready-write}
+use Rattle.judgement.proofs.Accepted.{ready-write}
 use borrow.Author.Needs.{needs}
 use Rattle.ulb_write_internal.proofs.ulb_write_internal.Statement.{statement}
 use Rattle.ulb_write_internal.proofs.ulb_write_internal.Tie as tie

@@ -3,7 +3,7 @@
 -- Assumes nothing.
 use mathlib.Core.Path.{sym, _∙_}
 use denote.Ref.{now}
-use Rattle.answers.proofs.Accepted.{ready-port}
+use Rattle.judgement.proofs.Accepted.{ready-port}
 use Rattle.contracts.specs.Timed.{lent, writeIo}
 use Rattle.timed.proofs.Timing.{ready-io, timed-refused, timed-accepted}
 use borrow.Author.Needs.{needs}

@@ -1,0 +1,41 @@
+-- The record is judged first; an accepted one is then judged by the call's own causes, and a cause that this call has not is false.
+-- Assumes nothing.
+use Rattle.judgement.specs.Refusals.{judged}
+use Rattle.judgement.specs.Judges.{judgeShown}
+use Rattle.judgement.proofs.Judging.{refused-before, accepted-then}
+use borrow.Author.Needs.{needs}
+use Rattle.judgement.proofs.judge_shown.Statement.{statement}
+use Rattle.judgement.proofs.judge_shown.Tie as tie
+
+judge-state-requires : tie.Need-judge-state-requires
+judge-state-requires c κs = search needs
+
+enum-known-v : tie.Need-enum-known-v
+enum-known-v c = search needs
+
+enum-known-v-2 : tie.Need-enum-known-v-2
+enum-known-v-2 c = search needs
+
+first-cause-requires : tie.Need-first-cause-requires
+first-cause-requires c κs = search needs
+
+returns : tie.Need-returns
+unfolding judgeShown
+returns c = search (refused-before, needs)
+
+returns-2 : tie.Need-returns-2
+unfolding judgeShown judged
+returns-2 c =
+    accepted-then _ _ _ (c .before .before .before .before .judge-state .ensures) _ _ (c .before .before .v2 .given .1)
+    (rw (c .first-cause .ensures))
+
+pub judge-shown-spec : {M : Type 1} → statement M
+judge-shown-spec =
+    tie.close
+    (tie.spec
+    judge-state-requires
+    enum-known-v
+    enum-known-v-2
+    first-cause-requires
+    returns
+    returns-2)

@@ -1,0 +1,89 @@
+-- What an accepted call may count on: the facts that its causes, all false, leave. One record of named facts for each judgement.
+-- Assumes nothing.
+use Prim.Native.Nat.{ℕ, _≤_}
+use mathlib.Core.Path.{_≡_}
+use mathlib.Core.Bool.{Bool, true}
+use mathlib.Core.List.{List}
+use lib.ListN.{length}
+use Rattle.machine.specs.Numbers.{specsOf}
+use Rattle.machine.specs.Limits.{pictureLength, borderLength, pageLength, longestWait}
+use Rattle.record.specs.declared.Bus.{Bus}
+use Rattle.record.specs.declared.Held.the-variants as held
+use Rattle.record.specs.Record.{recordLength, recordOf, heldBy, HasRoom}
+use Rattle.record.specs.Sound.{Sound}
+use Rattle.memory.specs.Paging.{pageExists}
+use Rattle.ports.specs.Devices.{flagsOf, devicesLength}
+use Rattle.judgement.specs.Answers.{timedLength, numberLength}
+
+-- the lent record is sound, and is this one
+pub record OnRecord (state : List ℕ) (bus : Bus) : Type 0 where
+  pub long : length state ≡ recordLength
+  pub isHeld : heldBy state ≡ held.Sound bus
+  pub decodes : recordOf state ≡ bus
+  pub sound : Sound bus
+
+-- the slices of a timed call have their lengths
+pub record Fit (bus : Bus) (ram a b border answer : ℕ) : Type 0 where
+  pub ramIs : ram ≡ specsOf (bus .machine) .ram
+  pub aIs : a ≡ pictureLength
+  pub bIs : b ≡ pictureLength
+  pub borderIs : border ≡ borderLength
+  pub answerIs : answer ≡ timedLength
+
+pub record ReadyWait (state : List ℕ) (ram a b border clocks answer : ℕ) (bus : Bus) : Type 0 where
+  pub onRecord : OnRecord state bus
+  pub fit : Fit bus ram a b border answer
+  pub short : clocks ≤ longestWait
+  pub room : HasRoom (bus .passed)
+
+pub record ReadyPort (state devices : List ℕ) (ram a b border answer : ℕ) (bus : Bus) : Type 0 where
+  pub onRecord : OnRecord state bus
+  pub fit : Fit bus ram a b border answer
+  pub devicesIs : length devices ≡ devicesLength
+  pub flags : flagsOf devices ≡ true
+  pub room : HasRoom (bus .passed)
+
+pub record ReadyTold (state : List ℕ) (answer : ℕ) (bus : Bus) : Type 0 where
+  pub onRecord : OnRecord state bus
+  pub answerIs : answer ≡ numberLength
+
+pub record ReadyRead (state : List ℕ) (rom ram answer : ℕ) (bus : Bus) : Type 0 where
+  pub onRecord : OnRecord state bus
+  pub romIs : rom ≡ specsOf (bus .machine) .rom
+  pub ramIs : ram ≡ specsOf (bus .machine) .ram
+  pub answerIs : answer ≡ numberLength
+
+pub record ReadyWrite (state : List ℕ) (ram : ℕ) (bus : Bus) : Type 0 where
+  pub onRecord : OnRecord state bus
+  pub ramIs : ram ≡ specsOf (bus .machine) .ram
+
+pub record ReadyLoad (state : List ℕ) (ram bytes page : ℕ) (bus : Bus) : Type 0 where
+  pub onRecord : OnRecord state bus
+  pub ramIs : ram ≡ specsOf (bus .machine) .ram
+  pub bytesIs : bytes ≡ pageLength
+  pub exists : pageExists (bus .machine) page ≡ true
+
+pub record ReadyRamPage (state : List ℕ) (ram page : ℕ) (fits : Bool) (bus : Bus) : Type 0 where
+  pub onRecord : OnRecord state bus
+  pub ramIs : ram ≡ specsOf (bus .machine) .ram
+  pub answerFits : fits ≡ true
+  pub exists : pageExists (bus .machine) page ≡ true
+
+pub record ReadyBlock (state : List ℕ) (rom ram block : ℕ) (fits : Bool) (bus : Bus) : Type 0 where
+  pub onRecord : OnRecord state bus
+  pub romIs : rom ≡ specsOf (bus .machine) .rom
+  pub ramIs : ram ≡ specsOf (bus .machine) .ram
+  pub answerFits : fits ≡ true
+  pub blockIn : block ≤ 3
+
+pub record ReadyShown (state : List ℕ) (a b : ℕ) (fits : Bool) (bus : Bus) : Type 0 where
+  pub onRecord : OnRecord state bus
+  pub aIs : a ≡ pictureLength
+  pub bIs : b ≡ pictureLength
+  pub answerFits : fits ≡ true
+
+pub record ReadyStill (state : List ℕ) (ram picture flash : ℕ) (bus : Bus) : Type 0 where
+  pub onRecord : OnRecord state bus
+  pub ramIs : ram ≡ specsOf (bus .machine) .ram
+  pub pictureIs : picture ≡ pictureLength
+  pub flashIn : flash ≤ 1
