@@ -29,7 +29,7 @@ use Rattle.ports.specs.Devices.{devicesOf}
 use Rattle.bus.specs.World.{Core, World, busOf, started, Sized}
 use Rattle.bus.specs.Time.{paged, unpass, Op, silent, inCore, inScreen, inEdge, worldAfter}
 use Rattle.bus.specs.Turns.{clocksOf, Part, ran, fresh, ranBy}
-use Rattle.bus.specs.Calls.{pagingOps}
+use Rattle.bus.specs.Calls.{readValue, writeCode, pagingOps}
 use Rattle.bus.specs.Pokes.{poking, pageLoad}
 use Rattle.bus.proofs.Runs.{clocksIn, blocksIn, closedIn, ran-is, ran-world, fresh-blocks}
 use Rattle.bus.proofs.TimedCalls.{TimedPart, plain-timed, address-timed, read-timed, write-timed}
@@ -42,10 +42,19 @@ use Rattle.judgement.specs.Judges.{ramFits, judgeState, judgeTold, judgeWrite, 
 use Rattle.judgement.specs.Answers.{timedAnswer}
 use Rattle.judgement.specs.Order.{NoneHolds}
 use Rattle.judgement.proofs.Order.{state-ordered, wait-ordered, port-ordered, told-ordered, write-ordered, load-ordered}
-use Rattle.contracts.specs.Timed.{Lent, lentBy, startFitsOf, startLeaves, start, Outcome, outcome, timedCall, timedEnd, judgeWaitOf, judgePortOf, waitInternal, waitAt, readIo, writeIo}
+use Rattle.contracts.specs.Timed.{Lent, lentBy, noValue, startFitsOf, startLeaves, start, Outcome, outcome, timedCall, timedEnd, judgeWaitOf, judgePortOf, waitInternal, waitAt, readIo, writeIo}
 use Rattle.contracts.specs.Plain.{change, repage, writeInternal, write7ffdCall, resetFrames, loadPage}
-use Rattle.contracts.specs.Calls.{TimedCall, plain, mreq, noMreq, portIn, portOut, Call, startAgain, takeTime, writeByte, writePaging, resetPassed, loadRam, ask, Result, withRam, withState, waited, timedOps, timedValue, opsOf, replied, performed, timedCauses, causesOf, Typed, NotStarted}
+use Rattle.contracts.specs.Calls.{TimedCall, plain, mreq, noMreq, portIn, portOut, Call, startAgain, takeTime, writeByte, writePaging, resetPassed, loadRam, ask, Result, withRam, withState, waited, timedOps, opsOf, replied, performed, timedCauses, causesOf, NotStarted}
+use Rattle.contracts.proofs.Ranges.{Typed}
 use Rattle.contracts.proofs.Wholes.{record-of}
+
+-- the value or code of a timed call, as the core decides it
+abbrev pub timedValue : TimedCall → ZXMachine → Core → ℕ
+timedValue (plain n) m = noValue m
+timedValue (mreq addr n) m = noValue m
+timedValue (noMreq addr n) m = noValue m
+timedValue (portIn devices port) m = readValue m (devicesOf devices) port
+timedValue (portOut devices port value) m = writeCode m (devicesOf devices) port value
 
 -- what operations keep of a world
 pub record Kept (m : ZXMachine) (os : List Op) (w : World) : Type 0 where

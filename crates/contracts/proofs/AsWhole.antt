@@ -16,7 +16,8 @@ use Rattle.judgement.specs.Judges.{ramFits}
 use Rattle.judgement.specs.Order.{NoneHolds}
 use Rattle.contracts.specs.Timed.{Lent, lentBy}
 use Rattle.contracts.specs.Plain.{Told, Changed, Repaged, writeInternal, write7ffdCall, resetFrames, loadPage}
-use Rattle.contracts.specs.Calls.{Call, startAgain, takeTime, writeByte, writePaging, resetPassed, loadRam, ask, Result, result, withRam, withState, opsOf, replied, performed, causesOf, refusedFilled, Typed, Portions, lentOf, handedBack, NotStarted}
+use Rattle.contracts.specs.Calls.{Call, startAgain, takeTime, writeByte, writePaging, resetPassed, loadRam, ask, Result, result, withRam, withState, opsOf, replied, performed, causesOf, refusedFilled, Portions, lentOf, handedBack, NotStarted}
+use Rattle.contracts.proofs.Ranges.{Typed}
 use Rattle.contracts.proofs.Calls.{call-numbered, call-refused}
 use Rattle.contracts.proofs.Lending.{untouched, ram-changed, state-changed, lent-whole, handed-whole}
 use Rattle.contracts.proofs.Wholes.{timed-whole, reply-whole, state-whole, bus-is, ram-long, ram-whole}

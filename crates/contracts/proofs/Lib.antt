@@ -9,3 +9,4 @@ pub mod Lending
 pub mod Wholes
 pub mod Acts
 pub mod AsWhole
+pub mod Ranges

@@ -1,7 +1,7 @@
 -- ONE TYPE OF CALL: each function of the C surface with all that it is handed but the machine's own buffers; what it leaves, by its definition;
 -- for which causes it is refused; and what the firmware lends of its buffers, by mistake too little or too much.
 -- Assumes nothing.
-use Prim.Native.Nat.{ℕ, _<_, _^_}
+use Prim.Native.Nat.{ℕ}
 use mathlib.Core.Bool.{Bool, not}
 use mathlib.Core.List.{List, [], _∷_, _++_}
 use mathlib.Core.Path.{_≡_}
@@ -10,9 +10,8 @@ use lib.ListN.{length, take, drop}
 use Rattle.machine.specs.declared.ZXMachine.{ZXMachine}
 use Rattle.record.specs.Record.{machineOf}
 use Rattle.ports.specs.Devices.{devicesOf}
-use Rattle.bus.specs.World.{Core}
 use Rattle.bus.specs.Turns.{Part}
-use Rattle.bus.specs.Calls.{plainWait, addressWait, portRead, readValue, portWrite, writeCode, pagingWrite}
+use Rattle.bus.specs.Calls.{plainWait, addressWait, portRead, portWrite, pagingWrite}
 use Rattle.bus.specs.Pokes.{byteWrite, pageLoad, passedReset}
 use Rattle.screen.specs.declared.Helped.{Helped}
 use Rattle.screen.specs.Address.{lineAddress, lineAt, columnAt, attributeRow, attributeColumn, isAttribute}
@@ -22,7 +21,7 @@ use Rattle.judgement.specs.Refusals.{Cause, cause}
 use Rattle.judgement.specs.Judges.{numberFits, unless, noCauses, waitCauses, portCauses, toldCauses, readCauses, writeCauses, loadCauses, ramPageCauses, blockCauses, shownCauses, stillCauses}
 use Rattle.judgement.specs.Answers.{timedLength, numberLength, refusedAnswer}
 use Rattle.judgement.specs.Order.{allCauses}
-use Rattle.contracts.specs.Timed.{Lent, Outcome, noValue, startFitsOf, start, waitInternal, waitAt, readIo, writeIo}
+use Rattle.contracts.specs.Timed.{Lent, Outcome, startFitsOf, start, waitInternal, waitAt, readIo, writeIo}
 use Rattle.contracts.specs.Plain.{Told, told, readInternal, writeInternal, write7ffdCall, read7ffd, intActive, framesCount, resetFrames, loadPage, stillPicture, ramPageTold, blockTold, shownTold}
 use Rattle.contracts.specs.Helpers.{helperCall, colourHelped}
 
@@ -90,20 +89,13 @@ waited (noMreq addr n) l answer = waitAt l addr n answer
 waited (portIn devices port) l answer = readIo l devices port answer
 waited (portOut devices port value) l answer = writeIo l devices port value answer
 
--- the operations of a timed call, and its value or code, as the core decides them
+-- the operations of a timed call, as the core decides them
 abbrev pub timedOps : TimedCall → ZXMachine → Part
 timedOps (plain n) m = plainWait n
 timedOps (mreq addr n) m = addressWait m addr n
 timedOps (noMreq addr n) m = addressWait m addr n
 timedOps (portIn devices port) m = portRead m port
 timedOps (portOut devices port value) m = portWrite m (devicesOf devices) port value
-
-abbrev pub timedValue : TimedCall → ZXMachine → Core → ℕ
-timedValue (plain n) m = noValue m
-timedValue (mreq addr n) m = noValue m
-timedValue (noMreq addr n) m = noValue m
-timedValue (portIn devices port) m = readValue m (devicesOf devices) port
-timedValue (portOut devices port value) m = writeCode m (devicesOf devices) port value
 
 -- the operations of an accepted call; a second start has none
 unfoldable pub opsOf : ZXMachine → Call → Part
@@ -216,31 +208,6 @@ refusedFilled resetPassed code = []
 refusedFilled (loadRam bytes page) code = []
 refusedFilled (ask q out) code = refusedReply q out code
 
--- what the types of the functions' parameters say of a call's numbers
-abbrev pub TypedQuestion : Question → Type 0
-TypedQuestion (byteRead rom addr) = addr < 2 ^ 16
-TypedQuestion pagingRead = Unit {0}
-TypedQuestion interruptAsked = Unit {0}
-TypedQuestion framesAsked = Unit {0}
-TypedQuestion (pageAsked page) = page < 2 ^ 32
-TypedQuestion (blockAsked rom block) = block < 2 ^ 32
-TypedQuestion shownAsked = Unit {0}
-TypedQuestion (stillAsked flash) = flash < 2 ^ 32
-TypedQuestion (help h n) = n < 2 ^ 32
-
-abbrev pub Typed : Call → Type 0
-Typed (startAgain machine) = machine < 2 ^ 32
-Typed (takeTime (plain n) answer) = n < 2 ^ 32
-Typed (takeTime (mreq addr n) answer) = (addr < 2 ^ 16) × (n < 2 ^ 32)
-Typed (takeTime (noMreq addr n) answer) = (addr < 2 ^ 16) × (n < 2 ^ 32)
-Typed (takeTime (portIn devices port) answer) = port < 2 ^ 16
-Typed (takeTime (portOut devices port value) answer) = (port < 2 ^ 16) × (value < 2 ^ 8)
-Typed (writeByte addr value) = (addr < 2 ^ 16) × (value < 2 ^ 8)
-Typed (writePaging value answer) = value < 2 ^ 8
-Typed resetPassed = Unit {0}
-Typed (loadRam bytes page) = page < 2 ^ 32
-Typed (ask q out) = TypedQuestion q
-
 -- ---- what is lent: "our buffers each lent only in its own place and handed back untouched between calls"
 
 -- What the firmware lends of one of its own buffers: `count` bytes from the buffer's first on. A right call lends the buffer's own length. A mistaken
@@ -306,9 +273,6 @@ Obeyed (c ∷ cs) l = (c .result ≡ performed (c .call) (lentOf (c .lending) l)
 abbrev pub Each : (Made → Type 0) → List Made → Type 0
 Each P [] = Unit {0}
 Each P (c ∷ cs) = P c × Each P cs
-
-abbrev pub AllTyped : List Made → Type 0
-AllTyped cs = Each (λ c. Typed (c .call)) cs
 
 -- "with no second start": a start that is called again is refused
 abbrev pub NotStarted : Call → ℕ → Type 0

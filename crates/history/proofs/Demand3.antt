@@ -20,7 +20,8 @@ use Rattle.bus.specs.Turns.{Part}
 use Rattle.bus.proofs.Kept.{SoundWorld}
 use Rattle.contracts.specs.Timed.{Lent, lentBy}
 use Rattle.contracts.specs.Plain.{shownTold}
-use Rattle.contracts.specs.Calls.{plain, mreq, noMreq, portIn, portOut, Call, startAgain, takeTime, writeByte, writePaging, resetPassed, loadRam, ask, opsOf, performed, Typed, lentOf, Made, buffersAfter, Obeyed, Each, AllTyped, NotStarted, NoSecondStart}
+use Rattle.contracts.specs.Calls.{plain, mreq, noMreq, portIn, portOut, Call, startAgain, takeTime, writeByte, writePaging, resetPassed, loadRam, ask, opsOf, performed, lentOf, Made, buffersAfter, Obeyed, Each, NotStarted, NoSecondStart}
+use Rattle.contracts.proofs.Ranges.{Typed, AllTyped}
 use Rattle.history.specs.Log.{follow, drawn, newest, older, Ended}
 use Rattle.history.specs.Fresh.{Fresh}
 use Rattle.history.specs.Reports.{reportedClosed, Sums, counted, summed, PortTakes}

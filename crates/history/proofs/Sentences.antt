@@ -29,7 +29,8 @@ use Rattle.bus.proofs.Runs.{clocksIn, blocksIn}
 use Rattle.bus.proofs.Closing.{completed, closing-shows}
 use Rattle.judgement.specs.Answers.{timedLength}
 use Rattle.contracts.specs.Timed.{Lent, lentBy}
-use Rattle.contracts.specs.Calls.{plain, takeTime, performed, Typed, lentOf, Made, Obeyed, Each, AllTyped, NotStarted, NoSecondStart}
+use Rattle.contracts.specs.Calls.{plain, takeTime, performed, lentOf, Made, Obeyed, Each, NotStarted, NoSecondStart}
+use Rattle.contracts.proofs.Ranges.{Typed, AllTyped}
 use Rattle.history.specs.Log.{Shot, Frame, Shows, AllShow, follow, film}
 use Rattle.history.specs.Fresh.{Fresh}
 use Rattle.history.specs.Reports.{reportedClosed}

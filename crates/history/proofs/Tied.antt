@@ -22,7 +22,8 @@ use Rattle.bus.proofs.Runs.{clocksIn, blocksIn}
 use Rattle.bus.proofs.PortClocks.{read-small, write-small}
 use Rattle.bus.proofs.Kept.{SoundWorld}
 use Rattle.contracts.specs.Timed.{Lent, lentBy, Outcome}
-use Rattle.contracts.specs.Calls.{TimedCall, plain, mreq, noMreq, portIn, portOut, Call, startAgain, takeTime, writeByte, writePaging, resetPassed, loadRam, ask, Result, waited, timedOps, opsOf, performed, timedCauses, Typed, Portions, lentOf, handedBack, Made, buffersAfter, NotStarted}
+use Rattle.contracts.specs.Calls.{TimedCall, plain, mreq, noMreq, portIn, portOut, Call, startAgain, takeTime, writeByte, writePaging, resetPassed, loadRam, ask, Result, waited, timedOps, opsOf, performed, timedCauses, Portions, lentOf, handedBack, Made, buffersAfter, NotStarted}
+use Rattle.contracts.proofs.Ranges.{Typed}
 use Rattle.contracts.proofs.Calls.{call-numbered}
 use Rattle.contracts.proofs.Acts.{sized-kept, Kept, timed-kept, timed-left, few-blocks, Acted, acted}
 use Rattle.contracts.proofs.AsWhole.{as-whole, as-refused}

@@ -7,7 +7,8 @@ use mathlib.Core.Path.{_≡_, refl, sym, _∙_, ap}
 use contract.Lifetimes.{Lfts}
 use Rattle.contracts.specs.Timed.{Lent, lent, Outcome, outcome, start}
 use Rattle.contracts.specs.Plain.{told, Changed, Repaged}
-use Rattle.contracts.specs.Calls.{plain, mreq, noMreq, portIn, portOut, Helper, lineAddr, lineOf, columnOf, attrRowOf, attrColumnOf, colourBits, Question, byteRead, pagingRead, interruptAsked, framesAsked, pageAsked, blockAsked, shownAsked, stillAsked, help, Call, startAgain, takeTime, writeByte, writePaging, resetPassed, loadRam, ask, Result, result, withRam, withState, waited, helpedBy, replied, performed, TypedQuestion, Typed, lentOf, Made, buffersAfter, Obeyed, AllTyped}
+use Rattle.contracts.specs.Calls.{plain, mreq, noMreq, portIn, portOut, Helper, lineAddr, lineOf, columnOf, attrRowOf, attrColumnOf, colourBits, Question, byteRead, pagingRead, interruptAsked, framesAsked, pageAsked, blockAsked, shownAsked, stillAsked, help, Call, startAgain, takeTime, writeByte, writePaging, resetPassed, loadRam, ask, Result, result, withRam, withState, waited, helpedBy, replied, performed, lentOf, Made, buffersAfter, Obeyed}
+use Rattle.contracts.proofs.Ranges.{TypedQuestion, Typed, AllTyped}
 use Rattle.contracts.specs.Helpers.{helperCall}
 use Rattle.runs.specs.Run.{Slice, slice, Where, HelperAdmits, Replies, Steps, Run, Begins}
 

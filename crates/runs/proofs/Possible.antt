@@ -22,7 +22,9 @@ use Rattle.judgement.specs.declared.Verdict.{Verdict}
 use Rattle.judgement.specs.declared.Verdict.the-variants.{Refused, Accepted}
 use Rattle.judgement.specs.Order.{NoneHolds}
 use Rattle.contracts.specs.Timed.{Lent, lentWorld, lent, Outcome, outcome, timedCall, judgeWaitOf, judgePortOf, waitInternal, waitAt, readIo, writeIo}
-use Rattle.contracts.specs.Calls.{TimedCall, plain, mreq, noMreq, portIn, portOut, Helper, lineAddr, lineOf, columnOf, attrRowOf, attrColumnOf, colourBits, Question, byteRead, pagingRead, interruptAsked, framesAsked, pageAsked, blockAsked, shownAsked, stillAsked, help, Call, startAgain, takeTime, writeByte, writePaging, resetPassed, loadRam, ask, Result, waited, timedOps, timedValue, helpedBy, replied, performed, timedCauses, TypedQuestion, Typed}
+use Rattle.contracts.specs.Calls.{TimedCall, plain, mreq, noMreq, portIn, portOut, Helper, lineAddr, lineOf, columnOf, attrRowOf, attrColumnOf, colourBits, Question, byteRead, pagingRead, interruptAsked, framesAsked, pageAsked, blockAsked, shownAsked, stillAsked, help, Call, startAgain, takeTime, writeByte, writePaging, resetPassed, loadRam, ask, Result, waited, timedOps, helpedBy, replied, performed, timedCauses}
+use Rattle.contracts.proofs.Ranges.{TypedQuestion, Typed}
+use Rattle.contracts.proofs.Acts.{timedValue}
 use Rattle.contracts.specs.Helpers.{helperCall}
 use Rattle.contracts.proofs.Calls.{call-numbered, call-refused}
 use Rattle.runs.specs.Run.{slice, Where, HelperAdmits, Replies, Steps}

@@ -50,9 +50,9 @@ whole-at : (b : ZXBorder) (pairs : ℕ) (t : Bool) → beamAt (b .beamLast) ≡ 
 whole-at b pairs true p f = p
 whole-at b pairs false p f = rw (f refl)
 
-whole-color : (b : ZXBorder) (t : Bool) → cond (not t) (reset (b .beamLast)) (b .beamLast) .color ≡ b .beamLast .color
-whole-color b true = refl
-whole-color b false = refl
+whole-colour : (b : ZXBorder) (t : Bool) → cond (not t) (reset (b .beamLast)) (b .beamLast) .color ≡ b .beamLast .color
+whole-colour b true = refl
+whole-colour b false = refl
 
 closed-pixels : (t t′ : Bool) {x y x′ y′ : List ℕ} → t ≡ t′ → x ≡ x′ → y ≡ y′ → cond (not t) x y ≡ cond t′ y′ x′
 closed-pixels true true e p q = q
@@ -69,10 +69,10 @@ new-frame-border b e r =
           (fill-is 239 320 (whole b) (b .buffer)
           ∙ filled-at (beamAt (whole b)) (2 * e .pairs) 76800 (colorByte (whole b .color)) (e .colour) (b .buffer) (e .pixels)
           (whole-at b (e .pairs) (b .borderChanged) (r .beam) (r .unchanged))
-          (ap colorByte (whole-color b (b .borderChanged)) ∙ r .colour) (r .pixels))
+          (ap colorByte (whole-colour b (b .borderChanged)) ∙ r .colour) (r .pixels))
           (r .pixels);
       beam = refl;
-      colour = ap colorByte (whole-color b (b .borderChanged)) ∙ r .colour;
+      colour = ap colorByte (whole-colour b (b .borderChanged)) ∙ r .colour;
       blocked = refl;
       unchanged = λ f. refl;
     }

@@ -23,7 +23,7 @@ use Rattle.rustzx.specs.Screen.{ZXScreen, blackAttribute, newBank}
 use Rattle.rustzx.specs.Border.{ZXBorder}
 use Rattle.rustzx.specs.Controller.{ZXController}
 use Rattle.rustzx.specs.Related.{ourMachine, ourPage, Mirrors, Mirrored, activeOf, pagingOpen, Related}
-use Rattle.rustzx.proofs.Helpers.{rustColor, color-back}
+use Rattle.rustzx.proofs.Helpers.{rustColour, colour-back}
 use Rattle.rustzx.proofs.Banks.{putAll, all-mirrors}
 use Rattle.rustzx.proofs.Steps.{sound-in-step}
 
@@ -49,7 +49,7 @@ abbrev pub borderOf : World → ZXBorder
 borderOf w =
     record {
       buffer = w .edge .pixels;
-      beamLast = record { line = 2 * w .edge .pairs / 320; pixel = 2 * w .edge .pairs % 320; color = rustColor (colourOf (w .edge .colour)) };
+      beamLast = record { line = 2 * w .edge .pairs / 320; pixel = 2 * w .edge .pairs % 320; color = rustColour (colourOf (w .edge .colour)) };
       borderChanged = true;
       beamBlock = w .edge .blocked;
     }
@@ -71,7 +71,7 @@ rustOf m rom w =
       memory = record { rom = rom; ram = w .core .ram; map = mapOf m (w .core .paging) };
       screen = screenOf m w;
       border = borderOf w;
-      borderColor = rustColor (colourOf (w .core .reported));
+      borderColor = rustColour (colourOf (w .core .reported));
       frameClocks = w .core .clock;
       passedFrames = w .core .passed;
       pagingEnabled = pagingOpen m (w .core .paging);
@@ -118,11 +118,11 @@ every-state m rom w s ram-long rom-long =
       border = record {
         pixels = refl;
         beam = omega arith;
-        colour = color-back (w .edge .colour) (s .colour);
+        colour = colour-back (w .edge .colour) (s .colour);
         blocked = refl;
         unchanged = λ e. absurd (false≢true (sym e));
       };
-      reported = color-back (w .core .reported) (s .reported);
+      reported = colour-back (w .core .reported) (s .reported);
       clock = refl;
       passed = refl;
       enabled = refl;

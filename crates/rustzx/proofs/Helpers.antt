@@ -27,7 +27,7 @@ use Rattle.screen.proofs.RoundTrips.{number-then-colour}
 use Rattle.rustzx.specs.Panics.{OrPanic, done, panics, assert}
 use Rattle.rustzx.specs.Addresses.{lineAddr, bitmapLineAddr, lineRel, bitmapLineRel, bitmapColRel, attrRowRel, attrColRel}
 use Rattle.rustzx.specs.Colors.{ZXColor, Black, Blue, Red, Purple, Green, Cyan, Yellow, White, ZXBrightness, Normal, Bright, ZXAttribute, fromBits, colorByte, brightnessByte, fromByte, activeColor}
-use Rattle.rustzx.specs.Related.{ourColor, ourBrightness, ourAttribute}
+use Rattle.rustzx.specs.Related.{ourColour, ourBrightness, ourAttribute}
 
 -- ---- the five helpers: a number is that number, and a refusal 8 is a panic
 abbrev pub asRun : Helped → OrPanic ℕ
@@ -81,32 +81,32 @@ attr-col-is addr = asserted (isAttribute addr) (λ e. refl)
 
 -- ---- colours
 -- each colour, brightness and attribute of ours is the Rust's
-abbrev pub rustColor : picture.ZXColor → ZXColor
-rustColor color.Black = Black
-rustColor color.Blue = Blue
-rustColor color.Red = Red
-rustColor color.Purple = Purple
-rustColor color.Green = Green
-rustColor color.Cyan = Cyan
-rustColor color.Yellow = Yellow
-rustColor color.White = White
+abbrev pub rustColour : picture.ZXColor → ZXColor
+rustColour color.Black = Black
+rustColour color.Blue = Blue
+rustColour color.Red = Red
+rustColour color.Purple = Purple
+rustColour color.Green = Green
+rustColour color.Cyan = Cyan
+rustColour color.Yellow = Yellow
+rustColour color.White = White
 
 abbrev pub rustBrightness : bright.ZXBrightness → ZXBrightness
 rustBrightness brightness.Normal = Normal
 rustBrightness brightness.Bright = Bright
 
 abbrev pub rustAttribute : attribute.ZXAttribute → ZXAttribute
-rustAttribute a = record { ink = rustColor (a .ink); paper = rustColor (a .paper); flash = a .flash; brightness = rustBrightness (a .brightness) }
+rustAttribute a = record { ink = rustColour (a .ink); paper = rustColour (a .paper); flash = a .flash; brightness = rustBrightness (a .brightness) }
 
-color-there : (c : picture.ZXColor) → ourColor (rustColor c) ≡ c
-color-there color.Black = refl
-color-there color.Blue = refl
-color-there color.Red = refl
-color-there color.Purple = refl
-color-there color.Green = refl
-color-there color.Cyan = refl
-color-there color.Yellow = refl
-color-there color.White = refl
+colour-there : (c : picture.ZXColor) → ourColour (rustColour c) ≡ c
+colour-there color.Black = refl
+colour-there color.Blue = refl
+colour-there color.Red = refl
+colour-there color.Purple = refl
+colour-there color.Green = refl
+colour-there color.Cyan = refl
+colour-there color.Yellow = refl
+colour-there color.White = refl
 
 brightness-there : (b : bright.ZXBrightness) → ourBrightness (rustBrightness b) ≡ b
 brightness-there brightness.Normal = refl
@@ -117,10 +117,10 @@ attribute-by : (f : Bool) {i i′ p p′ : picture.ZXColor} {b b′ : bright.ZXB
 attribute-by f e g h = cc
 
 pub attribute-there : (a : attribute.ZXAttribute) → ourAttribute (rustAttribute a) ≡ a
-attribute-there a = attribute-by (a .flash) (color-there (a .ink)) (color-there (a .paper)) (brightness-there (a .brightness))
+attribute-there a = attribute-by (a .flash) (colour-there (a .ink)) (colour-there (a .paper)) (brightness-there (a .brightness))
 
 abbrev pub colouredRun : Coloured → OrPanic ZXColor
-colouredRun (coloured.Colour c) = done (rustColor c)
+colouredRun (coloured.Colour c) = done (rustColour c)
 colouredRun coloured.OutOfRange = panics
 
 -- from_bits: every number, those that panic among them
@@ -139,31 +139,31 @@ from-bits-is (suc (suc (suc (suc (suc (suc (suc (suc n)))))))) =
     rw l
 
 -- a number below 8 is its colour
-pub from-bits-done : (n : ℕ) → n < 8 → fromBits n ≡ done (rustColor (colourOf n))
+pub from-bits-done : (n : ℕ) → n < 8 → fromBits n ≡ done (rustColour (colourOf n))
 from-bits-done n h = let l = le-leb n 7 (omega arith) in from-bits-is n ∙ rw l
 
 -- u8::from(color)
-pub color-byte-is : (c : ZXColor) → colorByte c ≡ colourNumber (ourColor c)
-color-byte-is Black = refl
-color-byte-is Blue = refl
-color-byte-is Red = refl
-color-byte-is Purple = refl
-color-byte-is Green = refl
-color-byte-is Cyan = refl
-color-byte-is Yellow = refl
-color-byte-is White = refl
+pub colour-byte-is : (c : ZXColor) → colorByte c ≡ colourNumber (ourColour c)
+colour-byte-is Black = refl
+colour-byte-is Blue = refl
+colour-byte-is Red = refl
+colour-byte-is Purple = refl
+colour-byte-is Green = refl
+colour-byte-is Cyan = refl
+colour-byte-is Yellow = refl
+colour-byte-is White = refl
 
-pub color-number : (c : picture.ZXColor) → colorByte (rustColor c) ≡ colourNumber c
-color-number c = color-byte-is (rustColor c) ∙ ap colourNumber (color-there c)
+pub colour-number : (c : picture.ZXColor) → colorByte (rustColour c) ≡ colourNumber c
+colour-number c = colour-byte-is (rustColour c) ∙ ap colourNumber (colour-there c)
 
 -- a number below 8 is that of its colour
-pub color-back : (n : ℕ) → n < 8 → colorByte (rustColor (colourOf n)) ≡ n
-color-back n h = color-number (colourOf n) ∙ number-then-colour n (omega arith) .1
+pub colour-back : (n : ℕ) → n < 8 → colorByte (rustColour (colourOf n)) ≡ n
+colour-back n h = colour-number (colourOf n) ∙ number-then-colour n (omega arith) .1
 
 -- what set_color puts into a frame buffer is the pixel's byte
-pub pixel-byte-is : (c : ZXColor) (b : ZXBrightness) → colorByte c + 8 * brightnessByte b ≡ pixelByte (ourColor c) (ourBrightness b)
-pixel-byte-is c Normal = rw (color-byte-is c) (omega arith)
-pixel-byte-is c Bright = rw (color-byte-is c)
+pub pixel-byte-is : (c : ZXColor) (b : ZXBrightness) → colorByte c + 8 * brightnessByte b ≡ pixelByte (ourColour c) (ourBrightness b)
+pixel-byte-is c Normal = rw (colour-byte-is c) (omega arith)
+pixel-byte-is c Bright = rw (colour-byte-is c)
 
 -- ---- attributes
 pub bit-set : (k n : ℕ) → not (eqb (bitAnd n (2 ^ k)) 0) ≡ bit k n
@@ -177,14 +177,14 @@ pub from-byte-is : (v : ℕ) → fromByte v ≡ done (rustAttribute (attributeOf
 unfolding fromByte
 from-byte-is v =
     rw (and-mask v 3, and-mask (v / 8) 3, from-bits-done (v % 8) (omega arith), from-bits-done (v / 8 % 8) (omega arith), bit-set 6 v, bit-set 7 v)
-    (ap (λ (b : ZXBrightness). done (record { ink = rustColor (colourOf (v % 8)); paper = rustColor (colourOf (v / 8 % 8)); flash = bit 7 v; brightness = b })) (by-test (bit 6 v))) where
+    (ap (λ (b : ZXBrightness). done (record { ink = rustColour (colourOf (v % 8)); paper = rustColour (colourOf (v / 8 % 8)); flash = bit 7 v; brightness = b })) (by-test (bit 6 v))) where
       by-test : (t : Bool) → cond t Bright Normal ≡ rustBrightness (cond t brightness.Bright brightness.Normal)
       by-test true = refl
       by-test false = refl
 
 -- active_color is the active colour
-pub active-is : (a : ZXAttribute) (state flash : Bool) → ourColor (activeColor a state flash) ≡ ours.activeColor (ourAttribute a) state flash
+pub active-is : (a : ZXAttribute) (state flash : Bool) → ourColour (activeColor a state flash) ≡ ours.activeColor (ourAttribute a) state flash
 active-is a state flash = picked (xor state (a .flash && flash)) where
-  picked : (t : Bool) → ourColor (cond t (a .ink) (a .paper)) ≡ cond t (ourColor (a .ink)) (ourColor (a .paper))
+  picked : (t : Bool) → ourColour (cond t (a .ink) (a .paper)) ≡ cond t (ourColour (a .ink)) (ourColour (a .paper))
   picked true = refl
   picked false = refl

@@ -35,7 +35,7 @@ use Rattle.rustzx.specs.Controller.{ZXController, pageIsContended, addrI
 use Rattle.rustzx.specs.Related.{ourMachine, extenderGives, attachedOf, Related}
 use Rattle.rustzx.specs.Calls.{reachedCode, pagingCode}
 use Rattle.rustzx.proofs.Timing.{contention-is, port-is}
-use Rattle.rustzx.proofs.Helpers.{rustColor, from-bits-done, color-back}
+use Rattle.rustzx.proofs.Helpers.{rustColour, from-bits-done, colour-back}
 use Rattle.rustzx.proofs.Pages.{contended-is, page-is}
 use Rattle.rustzx.proofs.Steps.{wait-related, colour-related}
 use Rattle.rustzx.proofs.Stores.{paging-related}
@@ -158,9 +158,9 @@ module _ (m : ZXMachine) (rom : List ℕ) where
   border-hears v c w r =
       let h : v % 8 < 8 = omega arith in
       record {
-        value = reaches toBorder (setBorderColor (c .frameClocks) (rustColor (colourOf (v % 8))) c);
+        value = reaches toBorder (setBorderColor (c .frameClocks) (rustColour (colourOf (v % 8))) c);
         ends = ap (λ (x : OrPanic ZXColor). run.onDone x (λ color. done (reaches toBorder (setBorderColor (c .frameClocks) color c)))) (ap fromBits (and-mask v 3) ∙ from-bits-done (v % 8) h);
-        holds = (refl, colour-related m rom c w (rustColor (colourOf (v % 8))) (v % 8) (color-back (v % 8) h) r);
+        holds = (refl, colour-related m rom c w (rustColour (colourOf (v % 8))) (v % 8) (colour-back (v % 8) h) r);
       }
 
   -- paging: on a machine that has it, the code is the number that the 7FFD write answers

@@ -52,22 +52,22 @@ ourPage (Rom p) = page.Rom p
 ourPage (Ram p) = page.Ram p
 
 -- and its colours
-abbrev pub ourColor : ZXColor → picture.ZXColor
-ourColor Black = color.Black
-ourColor Blue = color.Blue
-ourColor Red = color.Red
-ourColor Purple = color.Purple
-ourColor Green = color.Green
-ourColor Cyan = color.Cyan
-ourColor Yellow = color.Yellow
-ourColor White = color.White
+abbrev pub ourColour : ZXColor → picture.ZXColor
+ourColour Black = color.Black
+ourColour Blue = color.Blue
+ourColour Red = color.Red
+ourColour Purple = color.Purple
+ourColour Green = color.Green
+ourColour Cyan = color.Cyan
+ourColour Yellow = color.Yellow
+ourColour White = color.White
 
 abbrev pub ourBrightness : ZXBrightness → bright.ZXBrightness
 ourBrightness Normal = brightness.Normal
 ourBrightness Bright = brightness.Bright
 
 abbrev pub ourAttribute : ZXAttribute → attribute.ZXAttribute
-ourAttribute a = record { ink = ourColor (a .ink); paper = ourColor (a .paper); brightness = ourBrightness (a .brightness); flash = a .flash }
+ourAttribute a = record { ink = ourColour (a .ink); paper = ourColour (a .paper); brightness = ourBrightness (a .brightness); flash = a .flash }
 
 -- a call's devices, as the Rust finds them attached
 abbrev pub extenderGives : Extender → Option ℕ

@@ -32,7 +32,8 @@ use Rattle.judgement.proofs.Order.{state-ordered, wait-ordered, port-ordered, t
 use Rattle.contracts.specs.Timed.{Lent, lentBy, Outcome, lentWorld, judgeWaitOf, judgePortOf, start}
 use Rattle.contracts.specs.Plain.{Told, told, stillPage, stillPicture}
 use Rattle.contracts.specs.Helpers.{helperCall}
-use Rattle.contracts.specs.Calls.{TimedCall, plain, mreq, noMreq, portIn, portOut, Helper, lineAddr, lineOf, columnOf, attrRowOf, attrColumnOf, colourBits, Question, byteRead, pagingRead, interruptAsked, framesAsked, pageAsked, blockAsked, shownAsked, stillAsked, help, Call, startAgain, takeTime, writeByte, writePaging, resetPassed, loadRam, ask, Result, result, withRam, withState, waited, opsOf, helpedBy, replied, performed, timedCauses, questionCauses, causesOf, refusedFilled, Typed, lentOf, handedBack, Made, buffersAfter, Obeyed, AllTyped, NotStarted, NoSecondStart}
+use Rattle.contracts.specs.Calls.{TimedCall, plain, mreq, noMreq, portIn, portOut, Helper, lineAddr, lineOf, columnOf, attrRowOf, attrColumnOf, colourBits, Question, byteRead, pagingRead, interruptAsked, framesAsked, pageAsked, blockAsked, shownAsked, stillAsked, help, Call, startAgain, takeTime, writeByte, writePaging, resetPassed, loadRam, ask, Result, result, withRam, withState, waited, opsOf, helpedBy, replied, performed, timedCauses, questionCauses, causesOf, refusedFilled, lentOf, handedBack, Made, buffersAfter, Obeyed, NotStarted, NoSecondStart}
+use Rattle.contracts.proofs.Ranges.{Typed, AllTyped}
 use Rattle.contracts.proofs.Calls.{call-numbered, call-refused}
 use Rattle.contracts.proofs.Acts.{sized-kept, start-left, acted}
 use Rattle.contracts.proofs.AsWhole.{as-whole, as-refused}

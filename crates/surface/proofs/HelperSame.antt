@@ -27,7 +27,7 @@ use Rattle.rustzx.specs.Addresses as rust
 use Rattle.rustzx.specs.Colors.{fromBits, colorByte}
 use Rattle.rustzx.specs.Controller.{ZXController}
 use Rattle.rustzx.specs.Related.{Related}
-use Rattle.rustzx.proofs.Helpers.{asRun, line-address-is, line-rel-is, col-rel-is, attr-row-is, attr-col-is, colouredRun, from-bits-is, color-number}
+use Rattle.rustzx.proofs.Helpers.{asRun, line-address-is, line-rel-is, col-rel-is, attr-row-is, attr-col-is, colouredRun, from-bits-is, colour-number}
 use Rattle.rustzx.proofs.EveryState.{rustOf, every-machine, every-state}
 use Rattle.surface.specs.Same.{SameLent, SameHelp}
 
@@ -53,7 +53,7 @@ module _ (n : ℕ) (answer : List ℕ) (long : length answer ≡ 5) where
   attr-col-same = rw (attr-col-is n) (helped-same (attributeColumn n) answer long)
 
   by-coloured : (c : Coloured) → onDone (colouredRun c) (λ x. done (colorByte x)) ≡ asRun (colourHelped c)
-  by-coloured (coloured.Colour c) = ap done (color-number c)
+  by-coloured (coloured.Colour c) = ap done (colour-number c)
   by-coloured coloured.OutOfRange = refl
 
   -- from_bits, its colour by its number
