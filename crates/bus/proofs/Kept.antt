@@ -54,7 +54,7 @@ module _ (m : ZXMachine) where
 
   tick-kept : (n : ℕ) (w : World) (b : Bool) → closes m n (w .core) ≡ b → SoundWorld m w
       → w .core .clock + n < 2 * specsOf m .frame
-      → (specsOf m .frame ≤ w .core .clock + n → w .core .passed + 1 < 2 ^ 32)
+      → (specsOf m .frame ≤ w .core .clock + n → HasRoom (w .core .passed))
       → SoundWorld m (does m (tick n) w)
   unfolding caughtUp finished
   tick-kept n w true e s short room =
@@ -134,7 +134,7 @@ module _ (m : ZXMachine) where
   -- for the frame that it may close.
   pub op-kept : (o : Op) (w : World) → SoundWorld m w → InRange m o
       → w .core .clock + clocksOf o < 2 * specsOf m .frame
-      → (specsOf m .frame ≤ w .core .clock + clocksOf o → w .core .passed + 1 < 2 ^ 32)
+      → (specsOf m .frame ≤ w .core .clock + clocksOf o → HasRoom (w .core .passed))
       → SoundWorld m (does m o w)
   unfolding clocksOf inCore inScreen inEdge
   op-kept (step h n) w s r short room = tick-kept (lasts h n) w (closes m (lasts h n) (w .core)) refl s short room
@@ -178,7 +178,7 @@ module _ (m : ZXMachine) where
   -- A RUN KEEPS SOUNDNESS where its clocks end below two frames, so that it closes at most one, and passed frames have room for that one.
   pub run-kept : (os : List Op) (w : World) → SoundWorld m w → AllInRange os
       → w .core .clock + clocksIn os < 2 * specsOf m .frame
-      → (specsOf m .frame ≤ w .core .clock + clocksIn os → w .core .passed + 1 < 2 ^ 32)
+      → (specsOf m .frame ≤ w .core .clock + clocksIn os → HasRoom (w .core .passed))
       → SoundWorld m (worldAfter m os w)
   unfolding clocksIn worldAfter
   run-kept [] w s r short room = s

@@ -6,6 +6,7 @@ use mathlib.Core.Bool.{Bool, true, false}
 use mathlib.Core.List.{List}
 use native.Mathlib.Omega.{arith}
 use lib.ListN.{length}
+use Rattle.record.specs.Record.{lastFrame}
 use Rattle.laws.proofs.Cases.{split, by-bool}
 use Rattle.machine.specs.declared.ZXMachine.{ZXMachine}
 use Rattle.machine.specs.declared.ZXMachine.the-variants.{Sinclair48K, Sinclair128K}
@@ -60,8 +61,8 @@ unfolding inked
 inked-long place k e = by-bool (λ (x : Edge). length (x .pixels) ≡ length (e .pixels)) (e .blocked) (λ _. refl) (λ _. inked-at-long place k e)
 
 -- time goes on by a step's clocks also where the step closes a frame
-later : (m : ZXMachine) (passed clock n c all : ℕ) → passed * specsOf m .frame + clock + all < 2 ^ 32 * specsOf m .frame → n + c ≤ all
-    → specsOf m .frame ≤ clock + n → (passed + 1) * specsOf m .frame + (clock + n - specsOf m .frame) + c < 2 ^ 32 * specsOf m .frame
+later : (m : ZXMachine) (passed clock n c all : ℕ) → passed * specsOf m .frame + clock + all < (lastFrame + 1) * specsOf m .frame → n + c ≤ all
+    → specsOf m .frame ≤ clock + n → (passed + 1) * specsOf m .frame + (clock + n - specsOf m .frame) + c < (lastFrame + 1) * specsOf m .frame
 later Sinclair48K passed clock n c all h l k = omega arith
 later Sinclair128K passed clock n c all h l k = omega arith
 

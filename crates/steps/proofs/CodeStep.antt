@@ -8,6 +8,7 @@ use native.Mathlib.Omega.{arith}
 use lib.Dec.{leb, eqb}
 use lib.ListN.{length, take, drop}
 use borrow.Author.Tests.{le-leb, lt-leb, eq-eqb, ne-eqb}
+use Rattle.record.specs.Record.{lastFrame, HasRoom}
 use Rattle.machine.specs.declared.ZXMachine.{ZXMachine}
 use Rattle.machine.specs.declared.ZXMachine.the-variants.{Sinclair48K, Sinclair128K}
 use Rattle.machine.specs.declared.ZXSpecs.{ZXSpecs}
@@ -180,8 +181,8 @@ module _ (t : Turning) (n : ℕ) (ram a b border a′ b′ : List ℕ) (position
 frame-small : (m : ZXMachine) → specsOf m .frame < 2 ^ 17
 frame-small m = regular m .short
 
-passes : (m : ZXMachine) (passed clock n : ℕ) → passed * specsOf m .frame + clock + n < 2 ^ 32 * specsOf m .frame
-    → specsOf m .frame ≤ clock + n → passed + 1 < 2 ^ 32
+passes : (m : ZXMachine) (passed clock n : ℕ) → passed * specsOf m .frame + clock + n < (lastFrame + 1) * specsOf m .frame
+    → specsOf m .frame ≤ clock + n → HasRoom passed
 passes Sinclair48K passed clock n h k = omega arith
 passes Sinclair128K passed clock n h k = omega arith
 
@@ -189,7 +190,7 @@ module _ (t : Turn) (k n : ℕ) (r : Ready t k n) where
   pub clock-fits : t .world .core .clock + n < 2 ^ 32
   clock-fits = omega (arith, frame-small (t .machine), r .inFrame, r .short)
 
-  pub passed-fits : (s : ZXSpecs) → s ≡ specsOf (t .machine) → s .frame ≤ t .world .core .clock + n → t .world .core .passed + 1 < 2 ^ 32
+  pub passed-fits : (s : ZXSpecs) → s ≡ specsOf (t .machine) → s .frame ≤ t .world .core .clock + n → HasRoom (t .world .core .passed)
   passed-fits s e h = passes (t .machine) (t .world .core .passed) (t .world .core .clock) n (r .time) (rw e at h)
 
   pub blocks-fit : (x : ℕ) → x ≤ 6144 → 0 < k → t .blocks + x < 2 ^ 32

@@ -5,6 +5,7 @@ use mathlib.Core.Bool.{false}
 use mathlib.Core.Path.{_≡_}
 use mathlib.Core.List.{List}
 use lib.ListN.{length}
+use Rattle.record.specs.Record.{lastFrame}
 use Rattle.machine.specs.Numbers.{specsOf}
 use Rattle.machine.specs.Limits.{pictureLength, borderLength}
 use Rattle.machine.specs.Timing.{blockPosition}
@@ -62,6 +63,6 @@ pub record Ready (t : Turn) (steps clocks : ℕ) : Type 0 where
   pub inFrame : t .world .core .clock < specsOf (t .machine) .frame
   pub inPlace : t .world .screen .painted ≤ blockPosition (specsOf (t .machine)) (t .world .core .clock)
   pub short : clocks < specsOf (t .machine) .frame
-  pub time : t .world .core .passed * specsOf (t .machine) .frame + t .world .core .clock + clocks < 2 ^ 32 * specsOf (t .machine) .frame
+  pub time : t .world .core .passed * specsOf (t .machine) .frame + t .world .core .clock + clocks < (lastFrame + 1) * specsOf (t .machine) .frame
   pub clocksFit : t .clocks + clocks < 2 ^ 32
   pub blocksFit : t .blocks + 6144 * steps < 2 ^ 16

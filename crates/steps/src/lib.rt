@@ -6,6 +6,8 @@ ghost use mathlib.Core.List.{List};
 ghost use Prim.Native.Nat.{ℕ, _+_, _-_, _^_, _≤_, _<_};
 ghost use lib.ListN.{length};
 ghost use Rattle.machine.specs.Numbers.{specsOf};
+ghost use Rattle.machine.specs.Limits.{borderLength};
+ghost use Rattle.record.specs.Record.{HasRoom};
 ghost use Rattle.border.specs.Edge.{finished};
 ghost use Rattle.bus.specs.World.{worldOf};
 ghost use Rattle.bus.specs.Time.{tick, showsA, caughtUp};
@@ -59,7 +61,7 @@ fn catch_up(bus: Bus, position: u32, ram: &[u8], a: &mut [u8], b: &mut [u8]) -> 
 
 // A frame's closing at a clock of the next one.
 fn close_frame(bus: Bus, clock: u32, border: &mut [u8]) -> Bus
-    requires { ⌜ (bus .passed + 1 < 2 ^ 32) × (bus .phase < 32) × (length (now border) ≡ 76800) ⌝ }
+    requires { ⌜ HasRoom (bus .passed) × (bus .phase < 32) × (length (now border) ≡ borderLength) ⌝ }
     ensures { λ r. ⌜ (r ≡ nextFrame bus clock) × (now (border .exit) ≡ finished (edgeIn bus (now (border .entry))) .pixels) ⌝ }
 {
     let m = bus.machine;

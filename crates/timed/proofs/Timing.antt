@@ -10,7 +10,7 @@ use Rattle.machine.specs.declared.ZXMachine.the-variants.{Sinclair48K, Sinclair
 use Rattle.machine.specs.Numbers.{specsOf}
 use Rattle.machine.specs.Timing.{interrupt}
 use Rattle.record.specs.declared.Bus.{Bus}
-use Rattle.record.specs.Record.{recordBytes, HasRoom}
+use Rattle.record.specs.Record.{recordBytes, HasRoom, lastFrame}
 use Rattle.record.specs.Sound.{Sound}
 use Rattle.steps.specs.declared.Turning.{Turning}
 use Rattle.bus.specs.World.{Core, worldOf}
@@ -27,7 +27,7 @@ use Rattle.contracts.specs.Timed.{Lent, lent, lentWorld, outcome, timedEnd, tim
 
 -- clocks since the start have room for one call more, if passed frames are below their last number
 time-fits : (m : ZXMachine) (passed clock clocks : ℕ) → HasRoom passed → clock < specsOf m .frame → clocks ≤ 65541
-    → passed * specsOf m .frame + clock + clocks < 2 ^ 32 * specsOf m .frame
+    → passed * specsOf m .frame + clock + clocks < (lastFrame + 1) * specsOf m .frame
 time-fits Sinclair48K passed clock clocks p c n = omega arith
 time-fits Sinclair128K passed clock clocks p c n = omega arith
 
