@@ -1,4 +1,4 @@
--- What the calls of a list report, and which lists of calls demand 3 speaks of.
+-- What the calls of a list report: clocks, blocks and closed frames, their sums, and the clocks of port calls.
 -- Assumes nothing.
 use Prim.Native.Nat.{ℕ, _+_, _≤_}
 use mathlib.Core.Bool.{cond}
