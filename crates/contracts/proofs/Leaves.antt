@@ -2,7 +2,7 @@
 -- definition's.
 -- Assumes nothing.
 use Prim.Native.Nat.{ℕ, _+_, _*_, _≤_, _<_}
-use mathlib.Core.Path.{_≡_, refl, ap, _∙_}
+use mathlib.Core.Path.{_≡_, ap, _∙_}
 use mathlib.Core.Bool.{Bool, true}
 use mathlib.Core.List.{List, []}
 use lib.ListN.{length}
@@ -15,9 +15,9 @@ use Rattle.record.specs.Record.{recordBytes, withPaging}
 use Rattle.memory.specs.declared.Paged.{Paged}
 use Rattle.memory.specs.declared.Page.{Page}
 use Rattle.memory.specs.declared.Page.the-variants as page
-use Rattle.memory.specs.Paging.{write7ffd, pagedCode, pagingAfter, pageAt, pageExists}
+use Rattle.memory.specs.Paging.{write7ffd, pagedCode, pagingAfter, pageAt, pageExists, shownPage}
 use Rattle.memory.specs.Memory.{ramPage, Holds}
-use Rattle.memory.proofs.Places.{exists-fits, map-holds}
+use Rattle.memory.proofs.Places.{exists-fits, map-holds, shown-exists}
 use Rattle.memory.proofs.Stored.{length-part}
 use Rattle.screen.specs.declared.Helped.{Helped}
 use Rattle.screen.specs.declared.Helped.the-variants as helped
@@ -28,7 +28,7 @@ use Rattle.judgement.specs.declared.Verdict.the-variants.{Refused, Accepted}
 use Rattle.judgement.specs.Refusals.{refusalNumber}
 use Rattle.judgement.specs.Answers.{numberAnswer, refusedAnswer, numberLength}
 use Rattle.judgement.specs.Ready.{ReadyLoad, ReadyRamPage, ReadyBlock, ReadyStill}
-use Rattle.contracts.specs.Plain.{told, tell, changed, change, repaged, repage, part, stillPage}
+use Rattle.contracts.specs.Plain.{told, tell, changed, change, repaged, repage, part}
 use Rattle.contracts.specs.Helpers.{helperCall}
 
 module _ (v j : Verdict) (judged : v ≡ j) where
@@ -102,14 +102,11 @@ pub block-holds : {state : List ℕ} {rom ram number : ℕ} {fits : Bool} {bus :
     → p ≡ pageAt (bus .machine) (bus .paging) number → Holds p rom ram
 block-holds {number = number} {bus = bus} p r e = rw (e, r .romIs, r .ramIs) (map-holds (bus .machine) (bus .paging) number)
 
--- and the page of a still picture, which is 16 KiB
-still-exists : (m : ZXMachine) → pageExists m (stillPage m) ≡ true
-still-exists Sinclair48K = refl
-still-exists Sinclair128K = refl
-
+-- and the page of a still picture, which is the shown one and 16 KiB
 pub still-fits : {state : List ℕ} {ram picture flash : ℕ} {bus : Bus} (number : ℕ) → ReadyStill state ram picture flash bus
-    → number ≡ stillPage (bus .machine) → 16384 * number + 16384 ≤ ram
-still-fits {bus = bus} number r e = rw (e, r .ramIs) (exists-fits (bus .machine) (stillPage (bus .machine)) (still-exists (bus .machine)))
+    → number ≡ shownPage (bus .machine) (bus .paging) → 16384 * number + 16384 ≤ ram
+still-fits {bus = bus} number r e =
+    rw (e, r .ramIs) (exists-fits (bus .machine) (shownPage (bus .machine) (bus .paging)) (shown-exists (bus .machine) (bus .paging)))
 
 pub page-long : (number : ℕ) (ram bytes : List ℕ) → bytes ≡ ramPage number ram → 16384 * number + 16384 ≤ length ram → length bytes ≡ 16384
 page-long number ram bytes e h = ap length e ∙ length-part (page.Ram number) [] ram h

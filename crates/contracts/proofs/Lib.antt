@@ -8,5 +8,6 @@ pub mod Calls
 pub mod Lending
 pub mod Wholes
 pub mod Acts
+pub mod Still
 pub mod AsWhole
 pub mod Ranges

@@ -2,4 +2,5 @@ pub mod Timed
 pub mod Plain
 pub mod Helpers
 pub mod Map
+pub mod Still
 pub mod Calls

@@ -1,18 +1,16 @@
 -- Document 01: the calls that take no time, as C calls them, and the three that hand back a part.
 -- Assumes nothing.
 use Prim.Native.Nat.{ℕ}
-use mathlib.Core.Bool.{true, cond}
+use mathlib.Core.Bool.{Bool, true, cond}
 use mathlib.Core.List.{List, []}
 use lib.Dec.{eqb}
 use lib.ListN.{length}
-use Rattle.machine.specs.declared.ZXMachine.{ZXMachine}
-use Rattle.machine.specs.declared.ZXMachine.the-variants.{Sinclair48K, Sinclair128K}
 use Rattle.machine.specs.Timing.{interrupt}
 use Rattle.machine.specs.Limits.{pictureLength}
 use Rattle.record.specs.declared.Bus.{Bus}
 use Rattle.record.specs.Record.{recordBytes, flagByte, withPaging, withPassed}
 use Rattle.memory.specs.declared.Page.the-variants as page
-use Rattle.memory.specs.Paging.{pageAt, write7ffd, pagedCode, pagingAfter}
+use Rattle.memory.specs.Paging.{pageAt, shownPage, write7ffd, pagedCode, pagingAfter}
 use Rattle.memory.specs.Memory.{peeked, poked, ramPage, pagePart, partStart, loaded}
 use Rattle.paint.specs.Paint.{blocks}
 use Rattle.bus.specs.Time.{showsA}
@@ -99,16 +97,15 @@ resetFrames state = change (λ bus. recordBytes (withPassed 0 bus)) state (judge
 unfoldable pub loadPage : List ℕ → List ℕ → List ℕ → ℕ → Changed
 loadPage state ram bytes number = change (λ bus. loaded number bytes ram) ram (judgeLoad state (length ram) (length bytes) number)
 
--- "An added still picture paints RAM page 0 (48K) or 5 (128K) whole into a lent picture with a given flash bit"
-abbrev pub stillPage : ZXMachine → ℕ
-stillPage Sinclair48K = 0
-stillPage Sinclair128K = 5
+-- the still picture, "whole .. with a given flash bit", of "the page now shown, by bit 3 of the 7FFD byte" (02, Q-1): the page that catch-up
+-- paints from
+abbrev pub stillOf : Bus → List ℕ → Bool → List ℕ
+stillOf bus ram flash = blocks (ramPage (shownPage (bus .machine) (bus .paging)) ram) flash 0 6144
 
 -- ulb_still_picture; the picture afterwards
 unfoldable pub stillPicture : List ℕ → List ℕ → List ℕ → ℕ → Changed
 stillPicture state ram picture flash =
-    change (λ bus. blocks (ramPage (stillPage (bus .machine)) ram) (eqb flash 1) 0 6144) picture
-    (judgeStill state (length ram) (length picture) flash)
+    change (λ bus. stillOf bus ram (eqb flash 1)) picture (judgeStill state (length ram) (length picture) flash)
 
 -- ---- the three that hand back a part: "returns .. an empty part where a part is due"
 abbrev pub part : (Bus → List ℕ) → Verdict → List ℕ

@@ -13,3 +13,4 @@ pub mod Named
 pub mod Good
 pub mod Demand3
 pub mod Sentences
+pub mod Stills

@@ -18,22 +18,21 @@ use Rattle.record.proofs.Soundness.{facts-sound}
 use Rattle.record.proofs.Round.{held-encode}
 use Rattle.memory.specs.Paging as paging
 use Rattle.memory.specs.Paging.{pagingAfter}
-use Rattle.paint.specs.Paint.{blocks}
-use Rattle.memory.specs.Memory.{ramPage}
 use Rattle.bus.specs.World.{World, busOf, started, Sized}
 use Rattle.bus.specs.Time.{worldAfter}
 use Rattle.bus.proofs.Lengths.{started-sized}
 use Rattle.bus.proofs.Kept.{SoundWorld, started-sound}
 use Rattle.judgement.specs.declared.Verdict.the-variants.{Accepted}
-use Rattle.judgement.specs.Judges.{romFits, judgeStill}
+use Rattle.judgement.specs.Judges.{romFits}
 use Rattle.judgement.specs.Answers.{numberLength}
 use Rattle.judgement.specs.Order.{NoneHolds, Numbered}
 use Rattle.judgement.proofs.Order.{state-ordered, wait-ordered, port-ordered, told-ordered, read-ordered, write-ordered, load-ordered, still-ordered}
 use Rattle.contracts.specs.Timed.{Lent, lentBy, Outcome, lentWorld, judgeWaitOf, judgePortOf, start}
-use Rattle.contracts.specs.Plain.{Told, told, stillPage, stillPicture}
+use Rattle.contracts.specs.Plain.{Told, told, Changed}
 use Rattle.contracts.specs.Helpers.{helperCall}
 use Rattle.contracts.specs.Calls.{TimedCall, plain, mreq, noMreq, portIn, portOut, Helper, lineAddr, lineOf, columnOf, attrRowOf, attrColumnOf, colourBits, Question, byteRead, pagingRead, interruptAsked, framesAsked, pageAsked, blockAsked, shownAsked, stillAsked, help, Call, startAgain, takeTime, writeByte, writePaging, resetPassed, loadRam, ask, Result, result, withRam, withState, waited, opsOf, helpedBy, replied, performed, timedCauses, questionCauses, causesOf, refusedFilled, lentOf, handedBack, Made, buffersAfter, Obeyed, NotStarted, NoSecondStart}
 use Rattle.contracts.proofs.Ranges.{Typed, AllTyped}
+use Rattle.contracts.proofs.Still.{still-of}
 use Rattle.contracts.proofs.Calls.{call-numbered, call-refused}
 use Rattle.contracts.proofs.Acts.{sized-kept, start-left, acted}
 use Rattle.contracts.proofs.AsWhole.{as-whole, as-refused}
@@ -134,11 +133,6 @@ module _ (rom : List ℕ) (c : ZXController) (l : Lent) (s : SameLent rom c l) w
       let same = its (eqb-true (length lent) (specsOf (recordOf (l .state) .machine) .rom) fits ∙ sym (rom-long rom c l s)) in
       subst (λ (r : List ℕ). NoneHolds (questionCauses (q r) l answer) → Reply (q r) (replied (q r) l answer)) (sym same) f h
 
-  still-is : (flash : ℕ) (picture : List ℕ) → judgeStill (l .state) (length (l .ram)) (length picture) flash ≡ Accepted bus
-      → stillPicture (l .state) (l .ram) picture flash .slice ≡ blocks (ramPage (stillPage (bus .machine)) (l .ram)) (eqb flash 1) 0 6144
-  unfolding stillPicture
-  still-is flash picture e = rw e
-
   helped-same : (h : Helper) (n : ℕ) (answer : List ℕ) → length answer ≡ numberLength → SameHelp (rustHelper h n) (helperCall (helpedBy h n) answer)
   helped-same lineAddr n answer e = line-addr-same n answer e
   helped-same lineOf n answer e = line-rel-same n answer e
@@ -172,7 +166,7 @@ module _ (rom : List ℕ) (c : ZXController) (l : Lent) (s : SameLent rom c l) w
       (λ h. let x = block-told-same rom c l here block answer (number-long (blockAsked rom block) answer h) in
       record { next = x .given .controller; same = (x, ended _ (x .given) (x .ends)); leaves = told-call (blockData (c .memory) block) (x .given) (x .ends) })
   reply-same (stillAsked flash) picture its h =
-      record { next = c; same = (still-is flash picture (still-ordered (l .state) (length (l .ram)) (length picture) flash .noneAccepts h), refl); leaves = s }
+      record { next = c; same = (ap (λ (x : Changed). x .slice) (still-of (l .state) (l .ram) picture flash bus (still-ordered (l .state) (length (l .ram)) (length picture) flash .noneAccepts h)), refl); leaves = s }
   reply-same (help helper n) answer its h = record { next = c; same = (helped-same helper n answer (eqb-true (length answer) numberLength (not-false _ (h .0))), refl); leaves = s }
 
   -- ---- ONE CALL, accepted, on the buffers that hold the Rust's machine.

@@ -7,13 +7,11 @@ use mathlib.Core.List.{List, [], _∷_, _++_}
 use lib.Dec.{eqb}
 use lib.ListN.{length}
 use Rattle.machine.specs.Limits.{pictureLength, pageLength}
-use Rattle.paint.specs.Paint.{blocks}
-use Rattle.memory.specs.Memory.{ramPage}
 use Rattle.ports.specs.Devices.{devicesOf}
 use Rattle.record.specs.Record.{recordOf}
 use Rattle.judgement.specs.Order.{Numbered}
 use Rattle.contracts.specs.Timed.{Lent, outcome}
-use Rattle.contracts.specs.Plain.{Told, told, stillPage}
+use Rattle.contracts.specs.Plain.{Told, told, stillOf}
 use Rattle.contracts.specs.Calls.{TimedCall, plain, mreq, noMreq, portIn, portOut, Helper, lineAddr, lineOf, columnOf, attrRowOf, attrColumnOf, colourBits, Question, byteRead, pagingRead, interruptAsked, framesAsked, pageAsked, blockAsked, shownAsked, stillAsked, help, Call, startAgain, takeTime, writeByte, writePaging, resetPassed, loadRam, ask, Result, result, causesOf, refusedFilled, lentOf, Made, buffersAfter, Each}
 use Rattle.rustzx.specs.Panics.{OrPanic, done, onDone}
 use Rattle.rustzx.specs.Controller.{ZXController}
@@ -53,8 +51,8 @@ pub record LeadsTo (k : rust.Call) (c next : ZXController) : Type 0 where
   pub ends : performed k c ≡ done given
   pub then : given .controller ≡ next
 
--- what the Rust says of an answered question. The still picture is an addition of document 01, which the Rust has not: "paints RAM page 0 (48K) or 5
--- (128K) whole into a lent picture with a given flash bit".
+-- what the Rust says of an answered question. The still picture is an addition that the Rust has not: it is ours (contracts, specs/Plain), of "the page
+-- now shown" (02, Q-1), and the Rust's machine stays as it was.
 abbrev pub SameReply : List ℕ → Question → ZXController → ZXController → Lent → Told → Type 0
 SameReply rom (byteRead lent addr) c next l t = SameTold (rust.readInternal addr) c t × LeadsTo (rust.readInternal addr) c next
 SameReply rom pagingRead c next l t = SameTold rust.read7ffd c t × LeadsTo rust.read7ffd c next
@@ -64,7 +62,7 @@ SameReply rom (pageAsked page) c next l t = SameFound (rust.ramPageOf page) c t 
 SameReply rom (blockAsked lent block) c next l t = SameFound (rust.blockOf block) c t pageLength (rom ++ l .ram) × LeadsTo (rust.blockOf block) c next
 SameReply rom shownAsked c next l t = SameFound rust.screenBuffer c t pictureLength (l .a ++ l .b) × LeadsTo rust.screenBuffer c next
 SameReply rom (stillAsked flash) c next l t =
-    (t .answer ≡ blocks (ramPage (stillPage (recordOf (l .state) .machine)) (l .ram)) (eqb flash 1) 0 6144) × (next ≡ c)
+    (t .answer ≡ stillOf (recordOf (l .state)) (l .ram) (eqb flash 1)) × (next ≡ c)
 SameReply rom (help h n) c next l t = SameHelp (rustHelper h n) t × (next ≡ c)
 
 -- what the Rust says of an accepted call on the buffers l: r has the number, the buffers afterwards and the answer. A second start is none.

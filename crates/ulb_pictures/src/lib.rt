@@ -4,10 +4,9 @@
 ghost use mathlib.Core.Path.{_≡_};
 ghost use mathlib.Core.Bool.{cond};
 ghost use Rattle.bus.specs.Time.{showsA};
-ghost use Rattle.contracts.specs.Plain.{told, changed, stillPage, shownTold, stillPicture, shownPart};
+ghost use Rattle.contracts.specs.Plain.{told, changed, shownTold, stillPicture, shownPart};
 ghost use Rattle.machine.specs.Limits.{pictureLength};
 use judgement::Verdict;
-use machine::ZXMachine;
 
 #[no_mangle]
 pub extern "C" fn ulb_shown_picture(state: &[u8], a: &[u8], b: &[u8], answer: &mut [u8]) -> u8
@@ -46,15 +45,7 @@ pub fn shown_picture<'a>(state: &[u8], a: &'a [u8], b: &'a [u8]) -> &'a [u8]
     }
 }
 
-fn still_page(m: ZXMachine) -> u32
-    ensures { λ r. ⌜ r ≡ stillPage m ⌝ }
-{
-    match m {
-        ZXMachine::Sinclair48K => 0,
-        ZXMachine::Sinclair128K => 5,
-    }
-}
-
+// The still picture, of the page that the screen now shows.
 #[no_mangle]
 pub extern "C" fn ulb_still_picture(state: &[u8], ram: &[u8], picture: &mut [u8], flash: u32) -> u8
     ensures { λ r. ⌜ changed r (now (picture .exit)) ≡ stillPicture (now (state .entry)) (now (ram .entry)) (now (picture .entry)) flash ⌝ }
@@ -64,7 +55,8 @@ pub extern "C" fn ulb_still_picture(state: &[u8], ram: &[u8], picture: &mut [u8]
         Verdict::Refused(e) => judgement::number(e),
         Verdict::Accepted(bus) => {
             let m = bus.machine;
-            let page = memory::ram_page_data(ram, still_page(m));
+            let shown = memory::screen_bank(m, bus.paging);
+            let page = memory::ram_page_data(ram, shown as u32);
             paint::still(page, picture, flash == 1);
             0
         }

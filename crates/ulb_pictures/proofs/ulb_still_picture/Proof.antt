@@ -20,18 +20,21 @@ number-requires c κs = search needs
 enum-known-v-2 : tie.Need-enum-known-v-2
 enum-known-v-2 c = search needs
 
-still-page-requires : tie.Need-still-page-requires
-still-page-requires c κs = search needs
+screen-bank-requires : tie.Need-screen-bank-requires
+screen-bank-requires c κs = search needs
+
+cast-ram-page-data : tie.Need-cast-ram-page-data
+cast-ram-page-data c = search needs
 
 ram-page-data-requires : tie.Need-ram-page-data-requires
 ram-page-data-requires c κs =
     let r = ready-still _ _ _ _ _ (sym (c .before .before .before .before .judge-still .ensures) ∙ c .before .before .v2 .given .1) in
-    still-fits _ r (c .still-page .ensures)
+    still-fits _ r (c .screen-bank .ensures)
 
 still-requires : tie.Need-still-requires
 still-requires c κs =
     let r = ready-still _ _ _ _ _ (sym (c .before .before .before .before .before .before .judge-still .ensures) ∙ c .before .before .before .before .v2 .given .1) in
-    (page-long _ _ _ (c .before .ram-page-data .ensures) (still-fits _ r (c .before .before .still-page .ensures)), r .pictureIs)
+    (page-long _ _ _ (c .before .ram-page-data .ensures) (still-fits _ r (c .before .before .screen-bank .ensures)), r .pictureIs)
 
 returns : tie.Need-returns
 unfolding stillPicture
@@ -45,7 +48,7 @@ returns-2 : tie.Need-returns-2
 unfolding stillPicture
 returns-2 c =
     changed-accepted _ _ (c .before .before .before .before .before .before .before .before .before .judge-still .ensures) _ _ _ _ (c .before .before .before .before .before .before .before .v2 .given .1)
-    (rw (c .before .before .still .ensures, c .before .before .before .before .ram-page-data .ensures, c .before .before .before .before .before .still-page .ensures))
+    (rw (c .before .before .still .ensures, c .before .before .before .before .ram-page-data .ensures, c .before .before .before .before .before .screen-bank .ensures))
 
 pub ulb-still-picture-spec : {M : Type 1} → statement M
 ulb-still-picture-spec =
@@ -55,7 +58,8 @@ ulb-still-picture-spec =
     enum-known-v
     number-requires
     enum-known-v-2
-    still-page-requires
+    screen-bank-requires
+    cast-ram-page-data
     ram-page-data-requires
     still-requires
     returns

@@ -1,0 +1,131 @@
+-- WHAT THE STILL PICTURE SHOWS: on any sound record, with the record's own flash, what a whole catch-up of a fresh frame would paint from the RAM
+-- as it stands. First in catch-up's own definitions (bus, specs/Time), and then of the calls: one plain wait past the last block of a fresh frame.
+-- Assumes nothing.
+use Prim.Native.Nat.{ℕ, _+_, _*_, _≤_}
+use mathlib.Core.Bool.{Bool, true, false, false≢true, cond}
+use mathlib.Core.List.{List}
+use mathlib.Core.Path.{_≡_, refl, sym, ap, _∙_}
+use native.Mathlib.Omega.{arith}
+use lib.Dec.{eqb, ltb, lit≤}
+use lib.ListN.{length}
+use borrow.Author.Tests.{eq-eqb, ltb-false}
+use Rattle.machine.specs.declared.ZXMachine.{ZXMachine}
+use Rattle.machine.specs.declared.ZXMachine.the-variants.{Sinclair48K, Sinclair128K}
+use Rattle.machine.specs.Numbers.{specsOf}
+use Rattle.machine.specs.Limits.{pictureLength, longestWait}
+use Rattle.machine.specs.Timing.{blockPosition}
+use Rattle.machine.proofs.Numbered.{regular}
+use Rattle.machine.proofs.Rising.{last-block}
+use Rattle.record.specs.declared.Bus.{Bus}
+use Rattle.record.specs.Record.{recordBytes, flagByte}
+use Rattle.record.proofs.Soundness.{facts-sound}
+use Rattle.record.proofs.Round.{held-encode}
+use Rattle.memory.specs.Memory.{ramPage}
+use Rattle.paint.specs.Paint.{blocks}
+use Rattle.paint.proofs.Painting.{paint-whole}
+use Rattle.bus.specs.World.{Screen, World, busOf, Sized}
+use Rattle.bus.specs.Time.{Look, lookAt, flashOn, showsA, hiddenPicture, caughtUp, rewound, worldAfter}
+use Rattle.bus.proofs.OneStep.{frame-long, goes-on-if, screen-goes}
+use Rattle.bus.proofs.Kept.{SoundWorld}
+use Rattle.judgement.specs.declared.Verdict.the-variants.{Refused, Accepted}
+use Rattle.judgement.specs.declared.Refusal.the-variants.{BadNumber}
+use Rattle.judgement.specs.Refusals.{judged}
+use Rattle.judgement.specs.Judges.{judgeStill}
+use Rattle.contracts.specs.Timed.{lentBy, Outcome, waitInternal}
+use Rattle.contracts.specs.Plain.{Changed, changed, stillOf, stillPicture}
+use Rattle.contracts.specs.Calls.{plain, waited}
+use Rattle.contracts.specs.Still.{freshFrame}
+use Rattle.contracts.proofs.Refusals.{wait-internal-numbered}
+use Rattle.contracts.proofs.Acts.{timed-left}
+
+-- on every machine the longest wait from a frame's beginning is past its last block
+pub longest-reaches : (m : ZXMachine) → blockPosition (specsOf m) longestWait ≡ 6144
+longest-reaches m = last-block (specsOf m) (regular m .wide) longestWait (by m) where
+  by : (m : ZXMachine) → specsOf m .block + 191 * specsOf m .line + 124 ≤ longestWait
+  by Sinclair48K = lit≤ tt
+  by Sinclair128K = lit≤ tt
+
+-- an accepted still picture is its definition of the record
+pub still-of : (state ram picture : List ℕ) (flash : ℕ) (bus : Bus) → judgeStill state (length ram) (length picture) flash ≡ Accepted bus
+    → stillPicture state ram picture flash ≡ changed 0 (stillOf bus ram (eqb flash 1))
+unfolding stillPicture
+still-of state ram picture flash bus e = rw e
+
+module _ (m : ZXMachine) (w : World) (sound : SoundWorld m w) (sized : Sized m w) where
+  -- a still picture with flash off or on, into a picture of its length, is accepted
+  still-accepted : (flash : Bool) (picture : List ℕ) → length picture ≡ pictureLength
+      → judgeStill (recordBytes (busOf m w)) (length (w .core .ram)) (length picture) (flagByte flash) ≡ Accepted (busOf m w)
+  unfolding judgeStill judged
+  still-accepted flash picture long =
+      rw (held-encode (busOf m w) (facts-sound (busOf m w) sound), eq-eqb (length (w .core .ram)) (specsOf m .ram) (sized .ram), eq-eqb (length picture) pictureLength long)
+      (by flash) where
+        by : (flash : Bool) → cond (ltb 1 (flagByte flash)) (Refused BadNumber) (Accepted (busOf m w)) ≡ Accepted (busOf m w)
+        by true = refl
+        by false = refl
+
+  flag-is : (flash : Bool) → eqb (flagByte flash) 1 ≡ flash
+  flag-is true = refl
+  flag-is false = refl
+
+  -- WHAT IT IS: the whole of the shown page, with that flash.
+  pub still-is : (flash : Bool) (picture : List ℕ) → length picture ≡ pictureLength
+      → stillPicture (recordBytes (busOf m w)) (w .core .ram) picture (flagByte flash) ≡ changed 0 (stillOf (busOf m w) (w .core .ram) flash)
+  still-is flash picture long =
+      still-of (recordBytes (busOf m w)) (w .core .ram) picture (flagByte flash) (busOf m w) (still-accepted flash picture long)
+      ∙ ap (λ (t : Bool). changed 0 (stillOf (busOf m w) (w .core .ram) t)) (flag-is flash)
+
+  -- the hidden picture after a catch-up of a fresh frame to the last block
+  whole : (look : Look) → look .at ≡ 6144 → (shows-a : Bool)
+      → cond shows-a (caughtUp look shows-a (rewound (w .screen)) .b) (caughtUp look shows-a (rewound (w .screen)) .a)
+      ≡ blocks (ramPage (look .page) (look .ram)) (look .flash) 0 6144
+  unfolding caughtUp
+  whole look e true = rw e (paint-whole (ramPage (look .page) (look .ram)) (look .flash) (w .screen .b) (sized .b))
+  whole look e false = rw e (paint-whole (ramPage (look .page) (look .ram)) (look .flash) (w .screen .a) (sized .a))
+
+  -- the fresh frame is sound, and has its lengths
+  fresh-sound : SoundWorld m (freshFrame w)
+  fresh-sound =
+      record {
+        passed = sound .passed;
+        phase = sound .phase;
+        paging = sound .paging;
+        reported = sound .reported;
+        colour = sound .colour;
+        clock = omega (arith, frame-long m);
+        painted = omega arith;
+        pairs = omega arith;
+        atEnd = λ f. absurd (false≢true f);
+        noPairs = λ f. refl;
+        unpaged = sound .unpaged;
+      }
+
+  fresh-sized : Sized m (freshFrame w)
+  fresh-sized = record { ram = sized .ram; a = sized .a; b = sized .b; pixels = sized .pixels }
+
+  -- the record's own flash, and a clock by which the last block of a frame has come
+  module _ (picture : List ℕ) (long : length picture ≡ pictureLength) (n : ℕ) (last : blockPosition (specsOf m) n ≡ 6144) where
+    abbrev still : Changed
+    still = stillPicture (recordBytes (busOf m w)) (w .core .ram) picture (flagByte (flashOn (w .core .phase)))
+
+    -- ON ANY SOUND RECORD, WITH THE RECORD'S OWN FLASH, THE STILL PICTURE IS WHAT A WHOLE CATCH-UP OF A FRESH FRAME WOULD PAINT FROM THE RAM AS IT STANDS.
+    pub still-is-caught-up : still ≡ changed 0 (hiddenPicture (w .core) (caughtUp (lookAt m n (w .core)) (showsA (w .core .phase)) (freshFrame w .screen)))
+    still-is-caught-up =
+        still-is (flashOn (w .core .phase)) picture long
+        ∙ ap (changed 0) (sym (whole (lookAt m n (w .core)) last (showsA (w .core .phase))))
+
+    module _ (answer : List ℕ) where
+      abbrev wait : Outcome
+      wait = waitInternal (lentBy m (freshFrame w)) n answer
+
+      -- AND WHAT ONE PLAIN WAIT LEAVES, from a fresh frame past the last block, where it is accepted: in B if A is shown, in A if B is.
+      pub still-is-a-wait : wait .code ≡ 0 → still ≡ changed 0 (cond (showsA (w .core .phase)) (wait .slices .b) (wait .slices .a))
+      unfolding waited worldAfter
+      still-is-a-wait z =
+          let none = wait-internal-numbered (lentBy m (freshFrame w)) n answer .zeroByNone z in
+          let short = ltb-false longestWait n (none .1 .1 .1 .0) in
+          let on = goes-on-if m n (freshFrame w .core) (omega (arith, frame-long m)) in
+          let seen : blockPosition (specsOf m) (0 + n) ≡ 6144 = ap (blockPosition (specsOf m)) (omega arith) ∙ last in
+          still-is (flashOn (w .core .phase)) picture long
+          ∙ ap (changed 0) (sym (whole (lookAt m (0 + n) (freshFrame w .core)) seen (showsA (w .core .phase))))
+          ∙ ap (λ (s : Screen). changed 0 (cond (showsA (w .core .phase)) (s .b) (s .a))) (sym (screen-goes m n (freshFrame w .core) (freshFrame w .screen) on))
+          ∙ ap (λ (o : Outcome). changed 0 (cond (showsA (w .core .phase)) (o .slices .b) (o .slices .a))) (sym (timed-left m (freshFrame w) fresh-sound fresh-sized (plain n) answer none))
