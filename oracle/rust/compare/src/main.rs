@@ -105,6 +105,11 @@ impl Pair {
         Ok(())
     }
 
+    /// The still pictures of the page that is now shown, with flash off and on.
+    fn stills(&mut self) -> Result<(), String> {
+        (0..2).try_for_each(|flash| self.play(record(b'K', 0, 0, flash)))
+    }
+
     fn step(&mut self, r: Record) -> Result<(), String> {
         self.play(r)?;
         self.look()
@@ -237,8 +242,9 @@ fn every_number() -> Tally {
                 }
             }
         }
-        for flash in 0..2 {
-            let went = pair.play(record(b'K', 0, 0, flash));
+        // stills of both video pages, the second time with the byte locked
+        for paging in [0x00, 0x08, 0x07, 0x28, 0x00] {
+            let went = pair.play(record(b'7', paging, 0, 0)).and_then(|_| pair.stills());
             or_stop(&pair, went);
         }
         total.add(pair.t);
@@ -260,7 +266,7 @@ fn history(seed: u64, calls: usize) -> Tally {
         let went = pair.step(random::call(&mut r, machine, pair.rust.clock(), lengths % 3, locks));
         or_stop(&pair, went);
     }
-    let ended = pair.whole();
+    let ended = pair.stills().and_then(|_| pair.whole());
     or_stop(&pair, ended);
     pair.t
 }

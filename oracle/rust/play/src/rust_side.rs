@@ -98,12 +98,15 @@ impl RustSide {
         }
     }
 
-    /// The still picture is our addition: what a fresh original paints of that page in its first frame (flash off) or
-    /// in its second (flash on).
+    /// The still picture is our addition: what a fresh original with the same video pages and the same 7FFD byte, which
+    /// itself picks the page, paints in its first frame (flash off) or in its second (flash on).
     fn still(&self, flash: u32) -> u32 {
-        let page = if self.machine == 0 { 0 } else { 5 };
         let mut fresh = Watched::new(self.machine);
-        fresh.door.load_page(page, self.m.door.ram_page(page));
+        let pages: &[u8] = if self.machine == 0 { &[0] } else { &[5, 7] };
+        for &page in pages {
+            fresh.door.load_page(page, self.m.door.ram_page(page));
+        }
+        fresh.door.write_7ffd(self.m.door.read_7ffd());
         fresh.door.wait_internal(65_535);
         if flash == 1 {
             fresh.door.wait_internal(20_000);

@@ -41,6 +41,12 @@ impl List {
         }
     }
 
+    fn stills(&mut self) {
+        for flash in 0..2 {
+            self.add(b'K', 0, 0, flash);
+        }
+    }
+
     fn look(&mut self) {
         for op in *b"8TFVCH" {
             self.add(op, 0, 0, 0);
@@ -64,15 +70,22 @@ fn plain_calls(l: &mut List) {
                 l.add(b'P', 0xA5, addr, 0);
                 l.add(b'G', 0, addr, 0);
             }
+            l.stills();
             l.look();
         }
         for page in [0, 1, 2, 3, 5, 7, 8, 9, 255] {
             l.add(b'Q', page, 0, 0);
             l.add(b'L', page, 0, 200 + page as u32);
         }
-        l.add(b'K', 0, 0, 0);
-        l.add(b'K', 0, 0, 1);
+        l.stills();
         l.add(b'H', 0, 0, 0);
+    }
+    // stills of page 7 where the write that showed it has locked the byte
+    l.start(1, 0);
+    l.pages(400);
+    for paging in [0x08, 0x28, 0x00] {
+        l.add(b'7', paging, 0, 0);
+        l.stills();
     }
     for line in (0..192).step_by(13).chain([1, 7, 8, 63, 64, 127, 128, 191, 192, 193, 255, 256, 65_535]) {
         l.add(b'a', 0, 0, line);
