@@ -112,7 +112,7 @@ ulb_part ulb_machine_ram_page(ulb_machine *m, uint32_t page);
 ulb_part ulb_machine_block(ulb_machine *m, uint32_t block);
 ulb_part ulb_machine_shown_picture(ulb_machine *m);
 
-/* ulb_still_picture into 49,152 bytes of the caller's own, neither m->a nor m->b. */
+/* ulb_still_picture, of the page that is now shown, into 49,152 bytes of the caller's own, neither m->a nor m->b. */
 uint8_t ulb_machine_still_picture(ulb_machine *m, uint8_t *picture, size_t len, uint32_t flash);
 
 /* The six helpers that need no machine: ulb_bitmap_line_addr and its like. */

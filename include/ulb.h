@@ -156,8 +156,9 @@ uint8_t ulb_block(const uint8_t *state, size_t state_len, const uint8_t *rom, si
 uint8_t ulb_shown_picture(const uint8_t *state, size_t state_len, const uint8_t *a, size_t a_len, const uint8_t *b,
                           size_t b_len, uint8_t *answer, size_t answer_len);
 
-/* The still picture: RAM page 0 (48K) or 5 (128K) painted whole, with flash 0 or 1. Lend neither A nor B.
- * Refusals: 2, 3, 2, 8. */
+/* The still picture: the RAM page that is now shown (48K: 0; 128K: 5, or 7 with bit 3 of the 7FFD byte) painted whole as RAM
+ * stands, with flash 0 or 1. With the flash of the record's phase (on in 1 to 16) it is what a frame shows through which RAM and
+ * page stay as they are. Lend neither A nor B. Refusals: 2, 3, 2, 8. */
 uint8_t ulb_still_picture(const uint8_t *state, size_t state_len, const uint8_t *ram, size_t ram_len,
                           uint8_t *picture, size_t picture_len, uint32_t flash);
 

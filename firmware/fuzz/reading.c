@@ -429,8 +429,8 @@ void carry_out(const call *c, uint8_t state[23], const uint8_t devices[35], worl
         b.r.passed = 0;
     } else if (c->kind == LOAD_PAGE) {
         memcpy(w->ram + 16384 * c->number, w->bytes, 16384);
-    } else if (c->kind == STILL_PICTURE) {
-        for (unsigned k = 0; k < 6144; k++) paint_block(w->still, w->ram + (b.r.machine == 0 ? 0 : 81920), k, c->number == 1);
+    } else if (c->kind == STILL_PICTURE) { /* request Q-1: "the page now shown, by bit 3 of the 7FFD byte" */
+        for (unsigned k = 0; k < 6144; k++) paint_block(w->still, w->ram + 16384 * shown_page(&b.r), k, c->number == 1);
     }
     if (has_state) encode(&b.r, state);
 }

@@ -266,6 +266,49 @@ static void bytes_and_paging(void) {
     CHECK("changes nothing", memcmp(held, n.state, 23), 0);
 }
 
+static void fill_page(machine *m, unsigned page, uint8_t bitmap, uint8_t attribute) {
+    static uint8_t bytes[ULB_PAGE_BYTES];
+    memset(bytes, bitmap, 0x1800);
+    memset(bytes + 0x1800, attribute, 0x300);
+    CHECK("page load", ulb_load_page(OWN(m), m->ram, m->ram_len, bytes, ULB_PAGE_BYTES, page), 0);
+}
+
+/* Request Q-1: the still picture is of the page that is now shown, bit 3 off and on, locked or not; with the record's own flash it
+ * is what a frame paints in which nothing is written. The floating bus stays with 4000h. */
+static void stills(void) {
+    static const struct { uint8_t first, second; unsigned page; } rows[] = {
+        {0x00, 0x00, 5}, {0x00, 0x08, 7}, {0x08, 0x00, 5}, {0x08, 0x1F, 7}, {0x08, 0xF7, 5}, /* the second write is taken */
+        {0x28, 0x00, 7}, {0x20, 0x08, 5}, {0x2F, 0x27, 7}, {0xF7, 0xFF, 5},                 /* the first one has locked */
+    };
+    for (size_t i = 0; i < sizeof rows / sizeof *rows; i++) {
+        machine m = make(ULB_128K);
+        start(&m, ULB_128K);
+        for (unsigned page = 0; page < 8; page++) fill_page(&m, page, 0xFF, 0x36); /* yellow on yellow: neither page's colours */
+        fill_page(&m, 5, 0x00, 0x91); /* all paper: red, flashing to blue */
+        fill_page(&m, 7, 0xFF, 0xDC); /* all ink: bright green, flashing to bright magenta */
+        ulb_write_7ffd(OWN(&m), rows[i].first, FIVE(&m));
+        ulb_write_7ffd(OWN(&m), rows[i].second, FIVE(&m));
+        uint8_t *still[2], held[23], colour[2] = {rows[i].page == 5 ? 2 : 12, rows[i].page == 5 ? 1 : 11};
+        memcpy(held, m.state, 23);
+        for (unsigned flash = 0; flash < 2; flash++) {
+            still[flash] = room(ULB_PICTURE_BYTES, 0xAA);
+            CHECK("still", ulb_still_picture(OWN(&m), m.ram, m.ram_len, still[flash], ULB_PICTURE_BYTES, flash), 0);
+            CHECK("is of the page now shown", all_are(still[flash], ULB_PICTURE_BYTES, colour[flash]), 1);
+        }
+        CHECK("and changes no record", memcmp(held, m.state, 23), 0);
+
+        wait_plain(&m, 14361);
+        CHECK("a port read", in(&m, 0x00FF), 0);
+        CHECK("sees page 5, whichever is shown", m.answer[1], 0x00);
+        wait_plain(&m, 50000);
+        CHECK("the first frame, flash off, paints the still", memcmp(m.b, still[0], ULB_PICTURE_BYTES), 0);
+        wait_plain(&m, 70908 - 14365 - 50000);
+        CHECK("is closed", m.answer[2], 1);
+        wait_plain(&m, 60000);
+        CHECK("the second, flash on, the other", memcmp(m.a, still[1], ULB_PICTURE_BYTES), 0);
+    }
+}
+
 static void helpers(void) {
     static const struct { uint8_t (*call)(uint32_t, uint8_t *, size_t); uint32_t n; unsigned long gives; } rows[] = {
         {ulb_bitmap_line_addr, 0, 0x4000}, {ulb_bitmap_line_addr, 1, 0x4100}, {ulb_bitmap_line_addr, 191, 0x57E0},
@@ -313,6 +356,7 @@ int main(void) {
     ports();
     pages_and_parts();
     bytes_and_paging();
+    stills();
     helpers();
     left_over();
     printf("calls: %u checks, %u failed\n", checks, failures);

@@ -414,7 +414,8 @@ impl Machine {
         &self.border
     }
 
-    /// Paints RAM page 0 (48K) or 5 (128K) whole into a picture of the caller's.
+    /// Paints the RAM page that is now shown (48K: 0; 128K: 5, or 7 with bit 3 of the 7FFD byte) whole, with flash 0 or 1,
+    /// into a picture of the caller's.
     pub fn still_picture(&self, picture: &mut [u8], flash: u32) -> Result<(), Refusal> {
         let ram = self.kind.ram_bytes();
         accepted(unsafe {

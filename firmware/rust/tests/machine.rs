@@ -60,6 +60,10 @@ fn memory_and_pictures() {
     let mut still = vec![0; PICTURE_BYTES];
     m.still_picture(&mut still, 0).unwrap();
     assert_eq!(&still[..], &m.shown_picture().unwrap()[..]);
+    // page 7, which is empty, once bit 3 shows it
+    assert_eq!(m.write_7ffd(0x08), Ok(5));
+    m.still_picture(&mut still, 0).unwrap();
+    assert!(still.iter().all(|&pixel| pixel == 0));
     assert_eq!((m.write_7ffd(0x27), m.write_7ffd(0), m.read_7ffd()), (Ok(5), Ok(6), Ok(0x27)));
 }
 
