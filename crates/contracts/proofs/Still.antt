@@ -8,16 +8,16 @@ use mathlib.Core.Path.{_≡_, refl, sym, ap, _∙_}
 use native.Mathlib.Omega.{arith}
 use lib.Dec.{eqb, ltb, lit≤}
 use lib.ListN.{length}
-use borrow.Author.Tests.{eq-eqb, ltb-false}
+use borrow.Author.Tests.{eq-eqb, ne-eqb, le-ltb}
 use Rattle.machine.specs.declared.ZXMachine.{ZXMachine}
 use Rattle.machine.specs.declared.ZXMachine.the-variants.{Sinclair48K, Sinclair128K}
 use Rattle.machine.specs.Numbers.{specsOf}
-use Rattle.machine.specs.Limits.{pictureLength, longestWait}
+use Rattle.machine.specs.Limits.{pictureLength, borderLength, longestWait}
 use Rattle.machine.specs.Timing.{blockPosition}
 use Rattle.machine.proofs.Numbered.{regular}
 use Rattle.machine.proofs.Rising.{last-block}
 use Rattle.record.specs.declared.Bus.{Bus}
-use Rattle.record.specs.Record.{recordBytes, flagByte}
+use Rattle.record.specs.Record.{recordBytes, flagByte, lastFrame, HasRoom}
 use Rattle.record.proofs.Soundness.{facts-sound}
 use Rattle.record.proofs.Round.{held-encode}
 use Rattle.memory.specs.Memory.{ramPage}
@@ -30,8 +30,9 @@ use Rattle.bus.proofs.Kept.{SoundWorld}
 use Rattle.judgement.specs.declared.Verdict.the-variants.{Refused, Accepted}
 use Rattle.judgement.specs.declared.Refusal.the-variants.{BadNumber}
 use Rattle.judgement.specs.Refusals.{judged}
-use Rattle.judgement.specs.Judges.{judgeStill}
-use Rattle.contracts.specs.Timed.{lentBy, Outcome, waitInternal}
+use Rattle.judgement.specs.Judges.{judgeWait, judgeStill}
+use Rattle.judgement.specs.Answers.{timedLength}
+use Rattle.contracts.specs.Timed.{lentBy, Outcome, timedCall, judgeWaitOf, waitInternal}
 use Rattle.contracts.specs.Plain.{Changed, changed, stillOf, stillPicture}
 use Rattle.contracts.specs.Calls.{plain, waited}
 use Rattle.contracts.specs.Still.{freshFrame}
@@ -113,17 +114,34 @@ module _ (m : ZXMachine) (w : World) (sound : SoundWorld m w) (sized : Sized m w
         still-is (flashOn (w .core .phase)) picture long
         ∙ ap (changed 0) (sym (whole (lookAt m n (w .core)) last (showsA (w .core .phase))))
 
-    module _ (answer : List ℕ) where
+    -- AND WHAT ONE PLAIN WAIT OF A FRESH FRAME LEAVES, of n clocks: it is accepted, and the still picture then stands in B if A is shown, and in A if B is.
+    module _ (answer : List ℕ) (own : length answer ≡ timedLength) (short : n ≤ longestWait) (room : HasRoom (w .core .passed)) where
       abbrev wait : Outcome
       wait = waitInternal (lentBy m (freshFrame w)) n answer
 
-      -- AND WHAT ONE PLAIN WAIT LEAVES, from a fresh frame past the last block, where it is accepted: in B if A is shown, in A if B is.
-      pub still-is-a-wait : wait .code ≡ 0 → still ≡ changed 0 (cond (showsA (w .core .phase)) (wait .slices .b) (wait .slices .a))
+      wait-accepted : judgeWaitOf (lentBy m (freshFrame w)) n answer ≡ Accepted (busOf m (freshFrame w))
+      unfolding judgeWait judged
+      wait-accepted =
+          rw (
+            held-encode (busOf m (freshFrame w)) (facts-sound (busOf m (freshFrame w)) fresh-sound),
+            eq-eqb (length (w .core .ram)) (specsOf m .ram) (sized .ram),
+            eq-eqb (length (w .screen .a)) pictureLength (sized .a),
+            eq-eqb (length (w .screen .b)) pictureLength (sized .b),
+            eq-eqb (length (w .edge .pixels)) borderLength (sized .pixels),
+            eq-eqb (length answer) timedLength own,
+            le-ltb longestWait n short,
+            ne-eqb (w .core .passed) lastFrame (λ e. omega (arith, room, e)),
+          )
+
+      pub wait-is-accepted : wait .code ≡ 0
+      unfolding waitInternal timedCall
+      wait-is-accepted = rw wait-accepted
+
+      pub still-is-a-wait : still ≡ changed 0 (cond (showsA (w .core .phase)) (wait .slices .b) (wait .slices .a))
       unfolding waited worldAfter
-      still-is-a-wait z =
-          let none = wait-internal-numbered (lentBy m (freshFrame w)) n answer .zeroByNone z in
-          let short = ltb-false longestWait n (none .1 .1 .1 .0) in
-          let on = goes-on-if m n (freshFrame w .core) (omega (arith, frame-long m)) in
+      still-is-a-wait =
+          let none = wait-internal-numbered (lentBy m (freshFrame w)) n answer .zeroByNone wait-is-accepted in
+          let on = goes-on-if m n (freshFrame w .core) (omega (arith, short, frame-long m)) in
           let seen : blockPosition (specsOf m) (0 + n) ≡ 6144 = ap (blockPosition (specsOf m)) (omega arith) ∙ last in
           still-is (flashOn (w .core .phase)) picture long
           ∙ ap (changed 0) (sym (whole (lookAt m (0 + n) (freshFrame w .core)) seen (showsA (w .core .phase))))
