@@ -13,6 +13,7 @@
  *   5  a wait above 65,535 clocks
  *   6  a timed call with passed frames at 4,294,967,295
  *   7  a RAM page above 2 (48K) or 7 (128K)
+ *   9  a RAM page that is no video page: other than 0 (48K), or than 5 and 7 (128K)
  *   8  a number outside its range
  *
  * A timed call's answer has 10 bytes, little-endian:
@@ -54,6 +55,7 @@ enum {
     ULB_STATE_BYTES = 23,
     ULB_DEVICE_BYTES = 35,
     ULB_PAGE_BYTES = 16384,
+    ULB_SCREEN_FILE_BYTES = 6912, /* an SCR file: 6,144 bitmap bytes in page order, then 768 attribute bytes */
     ULB_PICTURE_BYTES = 49152, /* 256 x 192, a byte a pixel: colour 0..7, plus 8 if bright */
     ULB_BORDER_BYTES = 76800,  /* 320 x 240, a byte a pixel: colour 0..7 */
     ULB_RAM_BYTES_48K = 49152,
@@ -143,6 +145,16 @@ uint8_t ulb_reset_frame_counter(uint8_t *state, size_t state_len);
 /* 16,384 bytes into a RAM page. Refusals: 2, 3, 2, 7. */
 uint8_t ulb_load_page(const uint8_t *state, size_t state_len, uint8_t *ram, size_t ram_len, const uint8_t *src,
                       size_t src_len, uint32_t page);
+
+/* Screen files (SCR), of 6,912 bytes: 6,144 bitmap bytes in page order, and then 768 attribute bytes.
+ * Saving writes the shown page's (48K: 0; 128K: 5, or 7 with bit 3 of the 7FFD byte) into `file`. Refusals: 2, 3, 2.
+ * Loading writes the first 6,912 bytes of a video page (48K: 0; 128K: 5 or 7, shown or not) and no other byte of RAM.
+ * Neither takes time or paints: a file read in mid-frame shows from the next catch-up on, in the blocks that the beam
+ * has still to reach. Refusals: 2, 3, 2, 7, 9. */
+uint8_t ulb_save_scr(const uint8_t *state, size_t state_len, const uint8_t *ram, size_t ram_len, uint8_t *file,
+                     size_t file_len);
+uint8_t ulb_load_scr(const uint8_t *state, size_t state_len, uint8_t *ram, size_t ram_len, const uint8_t *file,
+                     size_t file_len, uint32_t page);
 
 /* Where a RAM page starts, and where the 16 KiB at a block 0..3 starts: counted through ROM and then RAM, so a number
  * below the ROM's length is in ROM, and else RAM at that number less the ROM's length.

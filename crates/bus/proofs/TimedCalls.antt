@@ -14,7 +14,7 @@ use Rattle.ports.specs.declared.Devices.{Devices}
 use Rattle.ports.specs.Hearers as hearer
 use Rattle.ports.specs.Hearers.{Hearer, hearers}
 use Rattle.bus.specs.World.{Core}
-use Rattle.bus.specs.Time.{store, paged, unpass, Op, step, colour, silent}
+use Rattle.bus.specs.Time.{lasts, store, paged, unpass, Op, step, colour, silent, closes, inCore}
 use Rattle.bus.specs.Turns.{clocksOf, coreAfter, Part, andThen}
 use Rattle.bus.specs.Calls.{contended, plainWait, delayed, addressWait, firstPart, lastPart, finalStep, readBefore, portRead, pagingOps, acts, actedOn, portWrite}
 use Rattle.bus.proofs.Runs.{clocksIn}
@@ -31,6 +31,15 @@ InCall m (silent unpass) = ⊥
 abbrev pub AllInCall : ZXMachine → List Op → Type 0
 AllInCall m [] = Unit {0}
 AllInCall m (o ∷ os) = InCall m o × AllInCall m os
+
+-- so it leaves RAM as it was
+pub op-ram : (m : ZXMachine) (o : Op) (c : Core) → InCall m o → inCore m o c .ram ≡ c .ram
+unfolding inCore
+op-ram m (step h n) c i = by-bool (λ (d : Core). d .ram ≡ c .ram) (closes m (lasts h n) c) (λ _. refl) (λ _. refl)
+op-ram m (colour k) c i = refl
+op-ram m (silent (paged v)) c i = refl
+op-ram m (silent (store at bytes)) c i = absurd i
+op-ram m (silent unpass) c i = absurd i
 
 -- a part of such operations that takes at most 65,535 clocks and a delay, whatever the core
 pub record TimedPart (m : ZXMachine) (f : Part) : Type 0 where

@@ -1,20 +1,18 @@
 -- FROM BYTES TO OPERATIONS: an accepted call on the buffers of a sound machine leaves, byte for byte, the world after its operations, which is
 -- sound again and has its lengths.
 -- Assumes nothing.
-use Prim.Native.Nat.{ℕ, _+_, _*_, _≤_, _<_}
+use Prim.Native.Nat.{ℕ, _+_, _≤_, _<_}
 use mathlib.Core.Bool.{Bool, true, false, cond}
 use mathlib.Core.List.{List, [], _∷_}
 use mathlib.Core.Path.{_≡_, refl, sym, _∙_, ap, subst}
 use native.Mathlib.Omega.{arith}
-use lib.Dec.{eqb, ltb}
+use lib.Dec.{ltb}
 use lib.ListN.{length}
-use borrow.Author.Tests.{eqb-true, eqb-false, ltb-false, not-false}
+use borrow.Author.Tests.{eqb-false, ltb-false}
 use Rattle.laws.proofs.Cases.{by-bool}
-use Rattle.laws.proofs.Conjunction.{each}
 use Rattle.machine.specs.declared.ZXMachine.{ZXMachine}
 use Rattle.machine.specs.declared.ZXMachine.the-variants.{Sinclair48K, Sinclair128K}
-use Rattle.machine.specs.Numbers.{specsOf}
-use Rattle.machine.specs.Limits.{pageLength, longestWait}
+use Rattle.machine.specs.Limits.{longestWait}
 use Rattle.machine.specs.Timing.{interrupt}
 use Rattle.record.specs.declared.Bus.{Bus}
 use Rattle.record.specs.Record.{recordBytes, recordOf, machineOf, withPaging, withPassed, lastFrame, noRoom, HasRoom}
@@ -22,13 +20,12 @@ use Rattle.memory.specs.declared.Place.{Place}
 use Rattle.memory.specs.declared.Place.the-variants as place
 use Rattle.memory.specs.declared.Paged.{Paged}
 use Rattle.memory.specs.declared.Paged.the-variants as paging
-use Rattle.memory.specs.Paging.{bitSet, write7ffd, pagingAfter, pageExists}
+use Rattle.memory.specs.Paging.{bitSet, write7ffd, pagingAfter}
 use Rattle.memory.specs.Memory.{placeOf, pokedIn, poked, loaded}
-use Rattle.memory.proofs.Places.{exists-fits}
 use Rattle.ports.specs.Devices.{devicesOf}
 use Rattle.bus.specs.World.{Core, World, busOf, started, Sized}
 use Rattle.bus.specs.Time.{paged, unpass, Op, silent, inCore, inScreen, inEdge, worldAfter}
-use Rattle.bus.specs.Turns.{clocksOf, Part, ran, fresh, ranBy}
+use Rattle.bus.specs.Turns.{clocksOf, fresh, ranBy}
 use Rattle.bus.specs.Calls.{readValue, writeCode, pagingOps}
 use Rattle.bus.specs.Pokes.{poking, pageLoad}
 use Rattle.bus.proofs.Runs.{clocksIn, blocksIn, closedIn, ran-is, ran-world, fresh-blocks}
@@ -37,14 +34,13 @@ use Rattle.bus.proofs.Lengths.{SameLengths, lengths-kept, call-lengths}
 use Rattle.bus.proofs.Kept.{SoundWorld, InRange, op-kept, call-kept}
 use Rattle.bus.proofs.Reports.{call-fits}
 use Rattle.judgement.specs.declared.Verdict.{Verdict}
-use Rattle.judgement.specs.declared.Verdict.the-variants.{Refused, Accepted}
-use Rattle.judgement.specs.Judges.{ramFits, judgeState, judgeTold, judgeWrite, judgeLoad}
+use Rattle.judgement.specs.declared.Verdict.the-variants.{Accepted}
 use Rattle.judgement.specs.Answers.{timedAnswer}
 use Rattle.judgement.specs.Order.{NoneHolds}
-use Rattle.judgement.proofs.Order.{state-ordered, wait-ordered, port-ordered, told-ordered, write-ordered, load-ordered}
+use Rattle.judgement.proofs.Order.{state-ordered, wait-ordered, port-ordered, told-ordered, write-ordered, load-ordered, load-scr-ordered}
 use Rattle.contracts.specs.Timed.{Lent, lentBy, noValue, startFitsOf, startLeaves, start, Outcome, outcome, timedCall, timedEnd, judgeWaitOf, judgePortOf, waitInternal, waitAt, readIo, writeIo}
-use Rattle.contracts.specs.Plain.{change, repage, writeInternal, write7ffdCall, resetFrames, loadPage}
-use Rattle.contracts.specs.Calls.{TimedCall, plain, mreq, noMreq, portIn, portOut, Call, startAgain, takeTime, writeByte, writePaging, resetPassed, loadRam, ask, Result, withRam, withState, waited, timedOps, opsOf, replied, performed, timedCauses, causesOf, NotStarted}
+use Rattle.contracts.specs.Plain.{change, repage, writeInternal, write7ffdCall, resetFrames, loadPage, loadScr}
+use Rattle.contracts.specs.Calls.{TimedCall, plain, mreq, noMreq, portIn, portOut, Call, startAgain, takeTime, writeByte, writePaging, resetPassed, loadRam, loadScreen, ask, withRam, withState, waited, timedOps, opsOf, performed, timedCauses, causesOf, NotStarted}
 use Rattle.contracts.proofs.Ranges.{Typed}
 use Rattle.contracts.proofs.Wholes.{record-of}
 
@@ -115,7 +111,7 @@ module _ (m : ZXMachine) (w : World) (sound : SoundWorld m w) (sized : Sized m w
       by (portOut devices port′ value) h = ap (timedCall (timedOps (portOut devices port′ value)) (timedValue (portOut devices port′ value)) l answer) (port devices h)
 
     -- of operations of a timed call, within refusal 5's limit
-    part-timed : Typed (takeTime t answer) → TimedPart m (timedOps t m)
+    pub part-timed : Typed (takeTime t answer) → TimedPart m (timedOps t m)
     part-timed typed = by t h typed where
       by : (t : TimedCall) → NoneHolds (timedCauses t l answer) → Typed (takeTime t answer) → TimedPart m (timedOps t m)
       by (plain k) h typed = plain-timed m k (omega (arith, ltb-false longestWait k (h .1 .1 .1 .0)))
@@ -207,16 +203,29 @@ module _ (m : ZXMachine) (w : World) (sound : SoundWorld m w) (sized : Sized m w
   unfolding worldAfter inCore inScreen inEdge
   load-world bytes page = refl
 
-  load-acted : (bytes : List ℕ) (page : ℕ) → NoneHolds (causesOf (loadRam bytes page) l) → Acted (loadRam bytes page)
-  unfolding performed opsOf loadPage clocksOf
-  load-acted bytes page h =
-      let new : Bus → List ℕ = λ bus. loaded page bytes (w .core .ram) in
+  -- bytes loaded from a page's first byte on, by a page load or from a screen file
+  stored-acted : (k : Call) (bytes : List ℕ) (page : ℕ) → opsOf m k (w .core) ≡ pageLoad page bytes (w .core)
+      → performed k l .slices ≡ withRam l (loaded page bytes (w .core .ram)) → Acted k
+  unfolding clocksOf
+  stored-acted k bytes page ops left =
       record {
-        slices =
-            ap (λ (v : Verdict). withRam l (change new (w .core .ram) v .slice)) (load-ordered (l .state) (length (l .ram)) (length bytes) page .noneAccepts h)
-            ∙ load-world bytes page;
-        kept = one-kept _ tt refl;
+        slices = left ∙ load-world bytes page ∙ ap (λ (os : List Op). lentBy m (worldAfter m os w)) (sym ops);
+        kept = rw ops (one-kept _ tt refl);
       }
+
+  load-acted : (bytes : List ℕ) (page : ℕ) → NoneHolds (causesOf (loadRam bytes page) l) → Acted (loadRam bytes page)
+  unfolding performed opsOf loadPage
+  load-acted bytes page h =
+      stored-acted (loadRam bytes page) bytes page refl
+      (ap (λ (v : Verdict). withRam l (change (λ bus. loaded page bytes (w .core .ram)) (w .core .ram) v .slice))
+      (load-ordered (l .state) (length (l .ram)) (length bytes) page .noneAccepts h))
+
+  screen-acted : (file : List ℕ) (page : ℕ) → NoneHolds (causesOf (loadScreen file page) l) → Acted (loadScreen file page)
+  unfolding performed opsOf loadScr
+  screen-acted file page h =
+      stored-acted (loadScreen file page) file page refl
+      (ap (λ (v : Verdict). withRam l (change (λ bus. loaded page file (w .core .ram)) (w .core .ram) v .slice))
+      (load-scr-ordered (l .state) (length (l .ram)) (length file) page .noneAccepts h))
 
   reset-world : withState l (recordBytes (withPassed 0 (busOf m w))) ≡ lentBy m (worldAfter m (silent unpass ∷ []) w)
   unfolding worldAfter inCore inScreen inEdge
@@ -263,4 +272,5 @@ module _ (m : ZXMachine) (w : World) (sound : SoundWorld m w) (sized : Sized m w
   acted (writePaging value answer) first typed h = paging-acted value answer typed h
   acted resetPassed first typed h = reset-acted h
   acted (loadRam bytes page) first typed h = load-acted bytes page h
+  acted (loadScreen file page) first typed h = screen-acted file page h
   acted (ask q out) first typed h = record { slices = refl; kept = none-kept }

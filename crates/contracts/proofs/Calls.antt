@@ -7,7 +7,7 @@ use mathlib.Core.Path.{_≡_, refl, ap}
 use Rattle.judgement.specs.Order.{Numbered}
 use Rattle.contracts.specs.Timed.{Lent}
 use Rattle.contracts.specs.Plain.{told}
-use Rattle.contracts.specs.Calls.{TimedCall, plain, mreq, noMreq, portIn, portOut, Helper, lineAddr, lineOf, columnOf, attrRowOf, attrColumnOf, colourBits, Question, byteRead, pagingRead, interruptAsked, framesAsked, pageAsked, blockAsked, shownAsked, stillAsked, help, Call, startAgain, takeTime, writeByte, writePaging, resetPassed, loadRam, ask, Result, result, withRam, withState, waited, helpedBy, replied, performed, timedCauses, helperRange, helperCauses, questionCauses, causesOf, refusedReply, refusedFilled}
+use Rattle.contracts.specs.Calls.{TimedCall, plain, mreq, noMreq, portIn, portOut, Helper, lineAddr, lineOf, columnOf, attrRowOf, attrColumnOf, colourBits, Question, byteRead, pagingRead, interruptAsked, framesAsked, pageAsked, blockAsked, shownAsked, stillAsked, fileAsked, help, Call, startAgain, takeTime, writeByte, writePaging, resetPassed, loadRam, loadScreen, ask, Result, result, withRam, withState, waited, helpedBy, replied, performed, timedCauses, helperRange, helperCauses, questionCauses, causesOf, refusedReply, refusedFilled}
 use Rattle.contracts.specs.Helpers.{helperCall}
 use Rattle.contracts.proofs.Refusals as refusals
 
@@ -38,6 +38,7 @@ reply-numbered (pageAsked page) l answer = refusals.ram-page-numbered (l .state)
 reply-numbered (blockAsked rom block) l answer = refusals.block-numbered (l .state) rom (l .ram) block answer
 reply-numbered shownAsked l answer = refusals.shown-picture-numbered (l .state) (l .a) (l .b) answer
 reply-numbered (stillAsked flash) l picture = refusals.still-picture-numbered (l .state) (l .ram) picture flash
+reply-numbered fileAsked l file = refusals.save-scr-numbered (l .state) (l .ram) file
 reply-numbered (help h n) l answer = helped-numbered h n answer
 
 -- THE NUMBER OF ANY CALL is that of the first of its causes, in document 01's order, that holds; 0, exactly when none holds.
@@ -49,6 +50,7 @@ call-numbered (writeByte addr value) l = refusals.write-internal-numbered (l .st
 call-numbered (writePaging value answer) l = refusals.write-7ffd-numbered (l .state) value answer
 call-numbered resetPassed l = refusals.reset-frames-numbered (l .state)
 call-numbered (loadRam bytes page) l = refusals.load-page-numbered (l .state) (l .ram) bytes page
+call-numbered (loadScreen file page) l = refusals.load-scr-numbered (l .state) (l .ram) file page
 call-numbered (ask q out) l = reply-numbered q l out
 
 -- ---- what a refused call leaves
@@ -73,6 +75,7 @@ module _ (l : Lent) where
   reply-refused (blockAsked rom block) answer z = refusals.block-unaltered (l .state) rom (l .ram) block answer z
   reply-refused shownAsked answer z = refusals.shown-picture-unaltered (l .state) (l .a) (l .b) answer z
   reply-refused (stillAsked flash) picture z = refusals.still-picture-unaltered (l .state) (l .ram) picture flash z
+  reply-refused fileAsked file z = refusals.save-scr-unaltered (l .state) (l .ram) file z
   reply-refused (help h n) answer z = refusals.helper-unaltered (helpedBy h n) answer z
 
   -- A REFUSED CALL, whichever it is, leaves the machine's slices as they were, and its answer as document 01 says.
@@ -85,4 +88,5 @@ module _ (l : Lent) where
       rw (refusals.write-7ffd-unaltered (l .state) value answer z .0, refusals.write-7ffd-unaltered (l .state) value answer z .1)
   call-refused resetPassed z = rw (refusals.reset-frames-unaltered (l .state) z)
   call-refused (loadRam bytes page) z = rw (refusals.load-page-unaltered (l .state) (l .ram) bytes page z)
+  call-refused (loadScreen file page) z = rw (refusals.load-scr-unaltered (l .state) (l .ram) file page z)
   call-refused (ask q out) z = ap (λ (answer : List ℕ). result (replied q l out .code) l answer) (reply-refused q out z)

@@ -9,6 +9,7 @@ use lib.ListN.{length}
 use native.Mathlib.Omega.{arith}
 use borrow.Author.Tests.{eq-eqb, ne-eqb, leb-true}
 use Rattle.machine.specs.declared.ZXMachine.{ZXMachine}
+use Rattle.machine.specs.Numbers.{specsOf}
 use Rattle.machine.specs.declared.ZXMachine.the-variants.{Sinclair48K, Sinclair128K}
 use Rattle.record.specs.declared.Bus.{Bus}
 use Rattle.record.specs.Record.{recordBytes, withPaging}
@@ -27,7 +28,7 @@ use Rattle.judgement.specs.declared.Verdict.{Verdict}
 use Rattle.judgement.specs.declared.Verdict.the-variants.{Refused, Accepted}
 use Rattle.judgement.specs.Refusals.{refusalNumber}
 use Rattle.judgement.specs.Answers.{numberAnswer, refusedAnswer, numberLength}
-use Rattle.judgement.specs.Ready.{ReadyLoad, ReadyRamPage, ReadyBlock, ReadyStill}
+use Rattle.judgement.specs.Ready.{OnRecord, ReadyLoad, ReadyRamPage, ReadyBlock, ReadyLoadScr}
 use Rattle.contracts.specs.Plain.{told, tell, changed, change, repaged, repage, part}
 use Rattle.contracts.specs.Helpers.{helperCall}
 
@@ -87,8 +88,12 @@ module _ (h : Helped) (answer : List ℕ) where
 pub page-fits : {state : List ℕ} {ram number : ℕ} {fits : Bool} {bus : Bus} → ReadyRamPage state ram number fits bus → 16384 * number + 16384 ≤ ram
 page-fits {number = number} {bus = bus} r = rw (r .ramIs) (exists-fits (bus .machine) number (r .exists))
 
-pub load-fits : {state : List ℕ} {ram bytes number : ℕ} {bus : Bus} → ReadyLoad state ram bytes number bus → (bytes ≡ 16384) × (16384 * number + 16384 ≤ ram)
-load-fits {number = number} {bus = bus} r = (r .bytesIs, rw (r .ramIs) (exists-fits (bus .machine) number (r .exists)))
+pub load-fits : {state : List ℕ} {ram bytes number : ℕ} {bus : Bus} → ReadyLoad state ram bytes number bus → 16384 * number + bytes ≤ ram
+load-fits {number = number} {bus = bus} r = rw (r .ramIs, r .bytesIs) (exists-fits (bus .machine) number (r .exists))
+
+-- and a screen file goes into its front
+pub load-scr-fits : {state : List ℕ} {ram file number : ℕ} {bus : Bus} → ReadyLoadScr state ram file number bus → 16384 * number + file ≤ ram
+load-scr-fits {number = number} {bus = bus} r = rw (r .ramIs, r .fileIs) (omega (arith, exists-fits (bus .machine) number (r .exists)))
 
 small : (m : ZXMachine) (number : ℕ) → pageExists m number ≡ true → number < 8
 small Sinclair48K number e = omega (arith, leb-true number 2 e)
@@ -102,11 +107,11 @@ pub block-holds : {state : List ℕ} {rom ram number : ℕ} {fits : Bool} {bus :
     → p ≡ pageAt (bus .machine) (bus .paging) number → Holds p rom ram
 block-holds {number = number} {bus = bus} p r e = rw (e, r .romIs, r .ramIs) (map-holds (bus .machine) (bus .paging) number)
 
--- and the page of a still picture, which is the shown one and 16 KiB
-pub still-fits : {state : List ℕ} {ram picture flash : ℕ} {bus : Bus} (number : ℕ) → ReadyStill state ram picture flash bus
+-- and the shown one, which is 16 KiB: the page of a still picture and of a screen file
+pub shown-fits : {state : List ℕ} {ram : ℕ} {bus : Bus} (number : ℕ) → OnRecord state bus → ram ≡ specsOf (bus .machine) .ram
     → number ≡ shownPage (bus .machine) (bus .paging) → 16384 * number + 16384 ≤ ram
-still-fits {bus = bus} number r e =
-    rw (e, r .ramIs) (exists-fits (bus .machine) (shownPage (bus .machine) (bus .paging)) (shown-exists (bus .machine) (bus .paging)))
+shown-fits {bus = bus} number on r e =
+    rw (e, r) (exists-fits (bus .machine) (shownPage (bus .machine) (bus .paging)) (shown-exists (bus .machine) (bus .paging)))
 
 pub page-long : (number : ℕ) (ram bytes : List ℕ) → bytes ≡ ramPage number ram → 16384 * number + 16384 ≤ length ram → length bytes ≡ 16384
 page-long number ram bytes e h = ap length e ∙ length-part (page.Ram number) [] ram h

@@ -11,3 +11,4 @@ pub mod Acts
 pub mod Still
 pub mod AsWhole
 pub mod Ranges
+pub mod Screens

@@ -2,7 +2,7 @@
 -- Assumes nothing.
 use Prim.Native.Nat.{ℕ, _<_, _^_}
 use mathlib.Core.List.{List}
-use Rattle.contracts.specs.Calls.{plain, mreq, noMreq, portIn, portOut, Question, byteRead, pagingRead, interruptAsked, framesAsked, pageAsked, blockAsked, shownAsked, stillAsked, help, Call, startAgain, takeTime, writeByte, writePaging, resetPassed, loadRam, ask, Made, Each}
+use Rattle.contracts.specs.Calls.{plain, mreq, noMreq, portIn, portOut, Question, byteRead, pagingRead, interruptAsked, framesAsked, pageAsked, blockAsked, shownAsked, stillAsked, fileAsked, help, Call, startAgain, takeTime, writeByte, writePaging, resetPassed, loadRam, loadScreen, ask, Made, Each}
 
 -- what the types of the functions' parameters say of a call's numbers
 abbrev pub TypedQuestion : Question → Type 0
@@ -14,6 +14,7 @@ TypedQuestion (pageAsked page) = page < 2 ^ 32
 TypedQuestion (blockAsked rom block) = block < 2 ^ 32
 TypedQuestion shownAsked = Unit {0}
 TypedQuestion (stillAsked flash) = flash < 2 ^ 32
+TypedQuestion fileAsked = Unit {0}
 TypedQuestion (help h n) = n < 2 ^ 32
 
 abbrev pub Typed : Call → Type 0
@@ -27,6 +28,7 @@ Typed (writeByte addr value) = (addr < 2 ^ 16) × (value < 2 ^ 8)
 Typed (writePaging value answer) = value < 2 ^ 8
 Typed resetPassed = Unit {0}
 Typed (loadRam bytes page) = page < 2 ^ 32
+Typed (loadScreen file page) = page < 2 ^ 32
 Typed (ask q out) = TypedQuestion q
 
 abbrev pub AllTyped : List Made → Type 0

@@ -22,22 +22,22 @@ use Rattle.screen.specs.declared.Coloured.the-variants as coloured
 use Rattle.screen.specs.Address.{isAttribute}
 use Rattle.screen.specs.Colour.{colourOf, colourNumber}
 use Rattle.judgement.specs.declared.Refusal.{Refusal}
-use Rattle.judgement.specs.declared.Refusal.the-variants.{BadMachine, BadLength, Unsound, BadFlag, LongWait, FramesFull, BadPage, BadNumber}
+use Rattle.judgement.specs.declared.Refusal.the-variants.{BadMachine, BadLength, Unsound, BadFlag, LongWait, FramesFull, BadPage, NoVideoPage, BadNumber}
 use Rattle.judgement.specs.declared.Verdict.{Verdict}
 use Rattle.judgement.specs.declared.Verdict.the-variants.{Refused, Accepted}
 use Rattle.judgement.specs.Refusals.{refusalNumber, Cause, cause, judged}
-use Rattle.judgement.specs.Judges.{numberFits, unless, noCauses, waitCauses, portCauses, toldCauses, readCauses, writeCauses, loadCauses, ramPageCauses, blockCauses, shownCauses, stillCauses, judgeState, judgeTold, judgeRead, judgeWrite, judgeLoad, judgeRamPage, judgeBlock, judgeShown, judgeStill}
+use Rattle.judgement.specs.Judges.{numberFits, unless, noCauses, waitCauses, portCauses, toldCauses, readCauses, writeCauses, loadCauses, ramPageCauses, blockCauses, shownCauses, stillCauses, saveScrCauses, loadScrCauses, judgeState, judgeTold, judgeRead, judgeWrite, judgeLoad, judgeRamPage, judgeBlock, judgeShown, judgeStill, judgeSaveScr, judgeLoadScr}
 use Rattle.judgement.specs.Answers.{refusedAnswer, timedLength, numberLength}
 use Rattle.judgement.specs.Order.{Ordered, Numbered, documentOrder, numbersOf, standIn, allCauses}
-use Rattle.judgement.proofs.Order.{by-list, state-ordered, wait-ordered, port-ordered, told-ordered, read-ordered, write-ordered, load-ordered, ram-page-ordered, block-ordered, shown-ordered, still-ordered}
+use Rattle.judgement.proofs.Order.{by-list, state-ordered, wait-ordered, port-ordered, told-ordered, read-ordered, write-ordered, load-ordered, ram-page-ordered, block-ordered, shown-ordered, still-ordered, save-scr-ordered, load-scr-ordered}
 use Rattle.contracts.specs.Timed.{Lent, Outcome, timedCall, judgeWaitOf, judgePortOf, waitInternal, waitAt, readIo, writeIo, lentBy, startFitsOf, Started, startLeaves, start}
-use Rattle.contracts.specs.Plain.{codeOf, Told, told, tell, Changed, change, Repaged, repage, readInternal, writeInternal, write7ffdCall, read7ffd, intActive, framesCount, resetFrames, loadPage, stillPicture, ramPageTold, blockTold, shownTold}
+use Rattle.contracts.specs.Plain.{codeOf, Told, told, tell, Changed, change, Repaged, repage, readInternal, writeInternal, write7ffdCall, read7ffd, intActive, framesCount, resetFrames, loadPage, saveScr, loadScr, stillPicture, ramPageTold, blockTold, shownTold}
 use Rattle.contracts.specs.Calls.{startCauses, helperCauses}
 use Rattle.contracts.specs.Helpers.{help, helperCall, colourHelped, bitmapLineAddr, bitmapLineRel, bitmapColRel, attrRowRel, attrColRel, colorFromBits}
 
 -- ---- numbers: a refusal is known by its number, which is not 0
 refusalOf : ℕ → Refusal
-refusalOf n = getD (Unsound ∷ BadMachine ∷ BadLength ∷ Unsound ∷ BadFlag ∷ LongWait ∷ FramesFull ∷ BadPage ∷ BadNumber ∷ []) n Unsound
+refusalOf n = getD (Unsound ∷ BadMachine ∷ BadLength ∷ Unsound ∷ BadFlag ∷ LongWait ∷ FramesFull ∷ BadPage ∷ BadNumber ∷ NoVideoPage ∷ []) n Unsound
 
 known : (e : Refusal) → refusalOf (refusalNumber e) ≡ e
 unfolding refusalOf
@@ -48,12 +48,13 @@ known BadFlag = refl
 known LongWait = refl
 known FramesFull = refl
 known BadPage = refl
+known NoVideoPage = refl
 known BadNumber = refl
 
 same-refusal : (e f : Refusal) → refusalNumber e ≡ refusalNumber f → e ≡ f
 same-refusal e f p = sym (known e) ∙ ap refusalOf p ∙ known f
 
--- document 01's refusals have the numbers 1 to 8
+-- the refusals have the numbers 1 to 9
 pub not-zero : (e : Refusal) → refusalNumber e ≡ 0 → ⊥
 not-zero BadMachine p = omega arith
 not-zero BadLength p = omega arith
@@ -62,6 +63,7 @@ not-zero BadFlag p = omega arith
 not-zero LongWait p = omega arith
 not-zero FramesFull p = omega arith
 not-zero BadPage p = omega arith
+not-zero NoVideoPage p = omega arith
 not-zero BadNumber p = omega arith
 
 zero-accepts : (v : Verdict) → codeOf v ≡ 0 → (bus : Bus) × (v ≡ Accepted bus)
@@ -180,6 +182,22 @@ load-page-numbered state ram bytes page = numbered (judgeLoad state (length ram)
 pub load-page-unaltered : (state ram bytes : List ℕ) (page : ℕ) → (loadPage state ram bytes page .code ≡ 0 → ⊥) → loadPage state ram bytes page .slice ≡ ram
 unfolding loadPage
 load-page-unaltered state ram bytes page n = changed-kept _ _ (judgeLoad state (length ram) (length bytes) page) (loadPage state ram bytes page) refl n
+
+pub load-scr-numbered : (state ram file : List ℕ) (page : ℕ) → Numbered (loadScr state ram file page .code) (allCauses state (loadScrCauses (length ram) (length file) page))
+unfolding loadScr
+load-scr-numbered state ram file page = numbered (judgeLoadScr state (length ram) (length file) page) _ _ _ (changed-code _ _ (judgeLoadScr state (length ram) (length file) page) (loadScr state ram file page) refl) (load-scr-ordered state (length ram) (length file) page)
+
+pub load-scr-unaltered : (state ram file : List ℕ) (page : ℕ) → (loadScr state ram file page .code ≡ 0 → ⊥) → loadScr state ram file page .slice ≡ ram
+unfolding loadScr
+load-scr-unaltered state ram file page n = changed-kept _ _ (judgeLoadScr state (length ram) (length file) page) (loadScr state ram file page) refl n
+
+pub save-scr-numbered : (state ram file : List ℕ) → Numbered (saveScr state ram file .code) (allCauses state (saveScrCauses (length ram) (length file)))
+unfolding saveScr
+save-scr-numbered state ram file = numbered (judgeSaveScr state (length ram) (length file)) _ _ _ (changed-code _ _ (judgeSaveScr state (length ram) (length file)) (saveScr state ram file) refl) (save-scr-ordered state (length ram) (length file))
+
+pub save-scr-unaltered : (state ram file : List ℕ) → (saveScr state ram file .code ≡ 0 → ⊥) → saveScr state ram file .slice ≡ file
+unfolding saveScr
+save-scr-unaltered state ram file n = changed-kept _ _ (judgeSaveScr state (length ram) (length file)) (saveScr state ram file) refl n
 
 pub write-7ffd-numbered : (state : List ℕ) (value : ℕ) (answer : List ℕ) → Numbered (write7ffdCall state value answer .code) (allCauses state (toldCauses (length answer)))
 unfolding write7ffdCall

@@ -1,21 +1,20 @@
 -- WHAT IS ACCEPTED WAS LENT WHOLE: on a sound machine whose memory has its lengths, a call that is accepted, whatever was lent of each buffer, was
 -- lent the buffers that it uses whole, and so does what it does on the buffers themselves.
 -- Assumes nothing.
-use Prim.Native.Nat.{ℕ, _<_, _≤_}
-use mathlib.Core.Bool.{Bool, true, false, not, _&&_}
+use Prim.Native.Nat.{ℕ}
+use mathlib.Core.Bool.{Bool, true, false, not}
 use mathlib.Core.List.{List, [], _∷_}
 use mathlib.Core.Path.{_≡_, refl, sym, _∙_, ap}
-use native.Mathlib.Omega.{arith}
 use lib.Dec.{eqb}
 use lib.ListN.{length}
-use borrow.Author.Tests.{eqb-true, eqb-false, ltb-false, not-false}
+use borrow.Author.Tests.{eqb-true, not-false}
 use Rattle.laws.proofs.Cases.{and-left}
 use Rattle.laws.proofs.Conjunction.{each}
 use Rattle.machine.specs.declared.ZXMachine.{ZXMachine}
 use Rattle.machine.specs.Numbers.{specsOf}
 use Rattle.machine.specs.Limits.{pictureLength, borderLength}
 use Rattle.record.specs.declared.Bus.{Bus}
-use Rattle.record.specs.Record.{recordBytes, recordLength, recordOf}
+use Rattle.record.specs.Record.{recordLength, recordOf}
 use Rattle.record.proofs.Soundness.{facts-sound}
 use Rattle.record.proofs.Round.{decode-encode-sound}
 use Rattle.ports.specs.Devices.{devicesLength}
@@ -23,10 +22,10 @@ use Rattle.bus.specs.World.{World, busOf, Sized}
 use Rattle.bus.proofs.Kept.{SoundWorld}
 use Rattle.judgement.specs.Judges.{ramFits, romFits, pictureFits, borderFits, timedFits, lentFit}
 use Rattle.judgement.specs.Order.{NoneHolds}
-use Rattle.contracts.specs.Timed.{Lent, lentBy, readIo}
-use Rattle.contracts.specs.Plain.{readInternal, read7ffd, intActive, framesCount, ramPageTold, blockTold, shownTold, stillPicture, told}
-use Rattle.contracts.specs.Calls.{TimedCall, plain, mreq, noMreq, portIn, portOut, Question, byteRead, pagingRead, interruptAsked, framesAsked, pageAsked, blockAsked, shownAsked, stillAsked, help, Call, takeTime, writeByte, writePaging, resetPassed, loadRam, ask, replied, performed, timedCauses, questionCauses, causesOf, Portions, lend, lentOf}
-use Rattle.contracts.proofs.Lending.{portion-whole, LentWhole, lent-whole}
+use Rattle.contracts.specs.Timed.{Lent, lentBy}
+use Rattle.contracts.specs.Plain.{readInternal, read7ffd, intActive, framesCount, ramPageTold, blockTold, shownTold, stillPicture, saveScr, told}
+use Rattle.contracts.specs.Calls.{TimedCall, plain, mreq, noMreq, portIn, portOut, Question, byteRead, pagingRead, interruptAsked, framesAsked, pageAsked, blockAsked, shownAsked, stillAsked, fileAsked, help, replied, timedCauses, questionCauses, Portions, lentOf}
+use Rattle.contracts.proofs.Lending.{portion-whole, LentWhole}
 
 module _ (m : ZXMachine) (w : World) (sound : SoundWorld m w) (sized : Sized m w) where
   abbrev l : Lent
@@ -106,4 +105,7 @@ module _ (m : ZXMachine) (w : World) (sound : SoundWorld m w) (sized : Sized m w
     reply-whole (stillAsked flash) out h =
         let fit = each (ramFits (recordOf (part .state)) (length (part .ram))) (_ ∷ []) (not-false _ (h .1 .1 .0)) in
         λ i. let c = stillPicture (state-whole (h .0) i) (ram-whole (recordOf (part .state)) (bus-is (h .0)) (fit 0) i) out flash in told (c .code) (c .slice)
+    reply-whole fileAsked out h =
+        let fit = each (ramFits (recordOf (part .state)) (length (part .ram))) (_ ∷ []) (not-false _ (h .1 .1 .0)) in
+        λ i. let c = saveScr (state-whole (h .0) i) (ram-whole (recordOf (part .state)) (bus-is (h .0)) (fit 0) i) out in told (c .code) (c .slice)
     reply-whole (help helper number) out h = refl

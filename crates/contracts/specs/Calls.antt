@@ -18,14 +18,14 @@ use Rattle.screen.specs.Address.{lineAddress, lineAt, columnAt, attributeRow, a
 use Rattle.screen.specs.Colour.{fromBits}
 use Rattle.judgement.specs.declared.Refusal.the-variants.{BadMachine, BadNumber}
 use Rattle.judgement.specs.Refusals.{Cause, cause}
-use Rattle.judgement.specs.Judges.{numberFits, unless, noCauses, waitCauses, portCauses, toldCauses, readCauses, writeCauses, loadCauses, ramPageCauses, blockCauses, shownCauses, stillCauses}
+use Rattle.judgement.specs.Judges.{numberFits, unless, noCauses, waitCauses, portCauses, toldCauses, readCauses, writeCauses, loadCauses, ramPageCauses, blockCauses, shownCauses, stillCauses, saveScrCauses, loadScrCauses}
 use Rattle.judgement.specs.Answers.{timedLength, numberLength, refusedAnswer}
 use Rattle.judgement.specs.Order.{allCauses}
 use Rattle.contracts.specs.Timed.{Lent, Outcome, startFitsOf, start, waitInternal, waitAt, readIo, writeIo}
-use Rattle.contracts.specs.Plain.{Told, told, readInternal, writeInternal, write7ffdCall, read7ffd, intActive, framesCount, resetFrames, loadPage, stillPicture, ramPageTold, blockTold, shownTold}
+use Rattle.contracts.specs.Plain.{Told, told, readInternal, writeInternal, write7ffdCall, read7ffd, intActive, framesCount, resetFrames, loadPage, saveScr, loadScr, stillPicture, ramPageTold, blockTold, shownTold}
 use Rattle.contracts.specs.Helpers.{helperCall, colourHelped}
 
--- ---- the calls, each with its numbers and with the contents of the slices that are not the machine's own: device record, ROM, page bytes
+-- ---- the calls, each with its numbers and with the contents of the slices that are not the machine's own: device record, ROM, page bytes, screen file
 
 -- the timed calls
 pub data TimedCall : Type 0 where
@@ -54,9 +54,10 @@ pub data Question : Type 0 where
   blockAsked : List ℕ → ℕ → Question
   shownAsked : Question
   stillAsked : ℕ → Question
+  fileAsked : Question
   help : Helper → ℕ → Question
 
--- any call; the last list of one is the slice that it fills: the answer, or the still's picture
+-- any call; the last list of one is the slice that it fills: the answer, the still's picture, or the screen file
 pub data Call : Type 0 where
   startAgain : ℕ → Call
   takeTime : TimedCall → List ℕ → Call
@@ -64,6 +65,7 @@ pub data Call : Type 0 where
   writePaging : ℕ → List ℕ → Call
   resetPassed : Call
   loadRam : List ℕ → ℕ → Call
+  loadScreen : List ℕ → ℕ → Call
   ask : Question → List ℕ → Call
 
 -- what a call leaves: the number returned, the machine's slices, and the slice that it fills (none where it has none)
@@ -105,6 +107,7 @@ opsOf m (writeByte addr value) c = byteWrite m addr value c
 opsOf m (writePaging value answer) c = pagingWrite m value c
 opsOf m resetPassed c = passedReset c
 opsOf m (loadRam bytes page) c = pageLoad page bytes c
+opsOf m (loadScreen file page) c = pageLoad page file c
 opsOf m (ask q out) c = []
 
 abbrev pub helpedBy : Helper → ℕ → Helped
@@ -126,6 +129,9 @@ replied shownAsked l answer = shownTold (l .state) (l .a) (l .b) answer
 replied (stillAsked flash) l picture =
     let c = stillPicture (l .state) (l .ram) picture flash in
     told (c .code) (c .slice)
+replied fileAsked l file =
+    let c = saveScr (l .state) (l .ram) file in
+    told (c .code) (c .slice)
 replied (help h n) l answer = helperCall (helpedBy h n) answer
 
 unfoldable pub performed : Call → Lent → Result
@@ -135,6 +141,7 @@ performed (writeByte addr value) l = let c = writeInternal (l .state) (l .ram) a
 performed (writePaging value answer) l = let c = write7ffdCall (l .state) value answer in result (c .code) (withState l (c .state)) (c .answer)
 performed resetPassed l = let c = resetFrames (l .state) in result (c .code) (withState l (c .slice)) []
 performed (loadRam bytes page) l = let c = loadPage (l .state) (l .ram) bytes page in result (c .code) (withRam l (c .slice)) []
+performed (loadScreen file page) l = let c = loadScr (l .state) (l .ram) file page in result (c .code) (withRam l (c .slice)) []
 performed (ask q out) l = let t = replied q l out in result (t .code) l (t .answer)
 
 -- ---- the causes for which a call is refused, in document 01's order
@@ -176,6 +183,7 @@ questionCauses (pageAsked page) l answer = allCauses (l .state) (ramPageCauses (
 questionCauses (blockAsked rom block) l answer = allCauses (l .state) (blockCauses (length rom) (length (l .ram)) block (numberFits (length answer)))
 questionCauses shownAsked l answer = allCauses (l .state) (shownCauses (length (l .a)) (length (l .b)) (numberFits (length answer)))
 questionCauses (stillAsked flash) l picture = allCauses (l .state) (stillCauses (length (l .ram)) (length picture) flash)
+questionCauses fileAsked l file = allCauses (l .state) (saveScrCauses (length (l .ram)) (length file))
 questionCauses (help h n) l answer = helperCauses (helperRange h n) answer
 
 abbrev pub causesOf : Call → Lent → List Cause
@@ -185,9 +193,10 @@ causesOf (writeByte addr value) l = allCauses (l .state) (writeCauses (length (l
 causesOf (writePaging value answer) l = allCauses (l .state) (toldCauses (length answer))
 causesOf resetPassed l = allCauses (l .state) noCauses
 causesOf (loadRam bytes page) l = allCauses (l .state) (loadCauses (length (l .ram)) (length bytes) page)
+causesOf (loadScreen file page) l = allCauses (l .state) (loadScrCauses (length (l .ram)) (length file) page)
 causesOf (ask q out) l = questionCauses q l out
 
--- "A refused call fills its answer, if that has its length, with the number and zeros": a still's picture is left as it was
+-- "A refused call fills its answer, if that has its length, with the number and zeros": a still's picture and a screen file are left as they were
 abbrev pub refusedReply : Question → List ℕ → ℕ → List ℕ
 refusedReply (byteRead rom addr) answer code = refusedAnswer numberLength code answer
 refusedReply pagingRead answer code = refusedAnswer numberLength code answer
@@ -197,6 +206,7 @@ refusedReply (pageAsked page) answer code = refusedAnswer numberLength code answ
 refusedReply (blockAsked rom block) answer code = refusedAnswer numberLength code answer
 refusedReply shownAsked answer code = refusedAnswer numberLength code answer
 refusedReply (stillAsked flash) picture code = picture
+refusedReply fileAsked file code = file
 refusedReply (help h n) answer code = refusedAnswer numberLength code answer
 
 abbrev pub refusedFilled : Call → ℕ → List ℕ
@@ -206,6 +216,7 @@ refusedFilled (writeByte addr value) code = []
 refusedFilled (writePaging value answer) code = refusedAnswer numberLength code answer
 refusedFilled resetPassed code = []
 refusedFilled (loadRam bytes page) code = []
+refusedFilled (loadScreen file page) code = []
 refusedFilled (ask q out) code = refusedReply q out code
 
 -- ---- what is lent: "our buffers each lent only in its own place and handed back untouched between calls"
@@ -282,6 +293,7 @@ NotStarted (writeByte addr value) code = Unit {0}
 NotStarted (writePaging value answer) code = Unit {0}
 NotStarted resetPassed code = Unit {0}
 NotStarted (loadRam bytes page) code = Unit {0}
+NotStarted (loadScreen file page) code = Unit {0}
 NotStarted (ask q out) code = Unit {0}
 
 abbrev pub NoSecondStart : List Made → Type 0

@@ -1,4 +1,4 @@
--- Document 01: the calls that take no time, as C calls them, and the three that hand back a part.
+-- Document 01, and document 02, Q-2: the calls that take no time, as C calls them, and the three that hand back a part.
 -- Assumes nothing.
 use Prim.Native.Nat.{ℕ}
 use mathlib.Core.Bool.{Bool, true, cond}
@@ -12,12 +12,13 @@ use Rattle.record.specs.Record.{recordBytes, flagByte, withPaging, withPassed}
 use Rattle.memory.specs.declared.Page.the-variants as page
 use Rattle.memory.specs.Paging.{pageAt, shownPage, write7ffd, pagedCode, pagingAfter}
 use Rattle.memory.specs.Memory.{peeked, poked, ramPage, pagePart, partStart, loaded}
+use Rattle.memory.specs.Screens.{screenFile}
 use Rattle.paint.specs.Paint.{blocks}
 use Rattle.bus.specs.Time.{showsA}
 use Rattle.judgement.specs.declared.Verdict.{Verdict}
 use Rattle.judgement.specs.declared.Verdict.the-variants.{Refused, Accepted}
 use Rattle.judgement.specs.Refusals.{refusalNumber}
-use Rattle.judgement.specs.Judges.{judgeState, judgeTold, judgeRead, judgeWrite, judgeLoad, numberFits, judgeRamPage, judgeBlock, judgeShown, judgeStill}
+use Rattle.judgement.specs.Judges.{judgeState, judgeTold, judgeRead, judgeWrite, judgeLoad, numberFits, judgeRamPage, judgeBlock, judgeShown, judgeStill, judgeSaveScr, judgeLoadScr}
 use Rattle.judgement.specs.Answers.{numberAnswer, refusedAnswer, numberLength}
 
 -- "Every call .. returns its refusal number, 0 if accepted."
@@ -96,6 +97,15 @@ resetFrames state = change (λ bus. recordBytes (withPassed 0 bus)) state (judge
 -- ulb_load_page: "page load (16,384 lent bytes into a RAM page)"; RAM afterwards
 unfoldable pub loadPage : List ℕ → List ℕ → List ℕ → ℕ → Changed
 loadPage state ram bytes number = change (λ bus. loaded number bytes ram) ram (judgeLoad state (length ram) (length bytes) number)
+
+-- ulb_save_scr: a screen file, "from the shown page into a lent slice" (02, Q-2); the file afterwards
+unfoldable pub saveScr : List ℕ → List ℕ → List ℕ → Changed
+saveScr state ram file =
+    change (λ bus. screenFile (ramPage (shownPage (bus .machine) (bus .paging)) ram)) file (judgeSaveScr state (length ram) (length file))
+
+-- ulb_load_scr: a screen file read "into a named video page" (02, Q-2); RAM afterwards
+unfoldable pub loadScr : List ℕ → List ℕ → List ℕ → ℕ → Changed
+loadScr state ram file number = change (λ bus. loaded number file ram) ram (judgeLoadScr state (length ram) (length file) number)
 
 -- the still picture, "whole .. with a given flash bit", of "the page now shown, by bit 3 of the 7FFD byte" (02, Q-1): the page that catch-up
 -- paints from

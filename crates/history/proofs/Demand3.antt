@@ -20,7 +20,7 @@ use Rattle.bus.specs.Turns.{Part}
 use Rattle.bus.proofs.Kept.{SoundWorld}
 use Rattle.contracts.specs.Timed.{Lent, lentBy}
 use Rattle.contracts.specs.Plain.{shownTold}
-use Rattle.contracts.specs.Calls.{plain, mreq, noMreq, portIn, portOut, Call, startAgain, takeTime, writeByte, writePaging, resetPassed, loadRam, ask, opsOf, performed, lentOf, Made, buffersAfter, Obeyed, Each, NotStarted, NoSecondStart}
+use Rattle.contracts.specs.Calls.{plain, mreq, noMreq, portIn, portOut, Call, startAgain, takeTime, writeByte, writePaging, resetPassed, loadRam, loadScreen, ask, opsOf, performed, lentOf, Made, buffersAfter, Obeyed, Each, NotStarted, NoSecondStart}
 use Rattle.contracts.proofs.Ranges.{Typed, AllTyped}
 use Rattle.history.specs.Log.{follow, drawn, newest, older, Ended}
 use Rattle.history.specs.Fresh.{Fresh}
@@ -42,7 +42,7 @@ pub record Standing (m : ZXMachine) (first : ℕ) (h : History) (s : Sums) : Typ
 
 module _ (m : ZXMachine) (first : ℕ) where
   -- one call more
-  call-stands : (c : Made) (h : History) (s : Sums) → c .result ≡ performed (c .call) (lentOf (c .lending) (s .slices)) → Typed (c .call)
+  pub call-stands : (c : Made) (h : History) (s : Sums) → c .result ≡ performed (c .call) (lentOf (c .lending) (s .slices)) → Typed (c .call)
       → NotStarted (c .call) (c .result .code) → Standing m first h s → Standing m first (goneOn m c h) (counted c s)
   unfolding goneOn
   call-stands c h s e typed again i =
@@ -96,6 +96,7 @@ module _ (m : ZXMachine) (first : ℕ) where
   leaves (writePaging value answer) = silent-leaves (opsOf m (writePaging value answer)) (λ c. paged-silent (write7ffd m (c .paging) value))
   leaves resetPassed = silent-leaves (opsOf m resetPassed) (λ c. tt)
   leaves (loadRam bytes page) = silent-leaves (opsOf m (loadRam bytes page)) (λ c. tt)
+  leaves (loadScreen file page) = silent-leaves (opsOf m (loadScreen file page)) (λ c. tt)
   leaves (ask q out) = silent-leaves (opsOf m (ask q out)) (λ c. tt)
 
   ends-by : (k : Call) (b : Bool) (h : History) (T B F : ℕ) → Inv m first T B F (h .world) (h .log) (h .shots)
@@ -138,7 +139,7 @@ module _ (m : ZXMachine) (first : ℕ) where
 
 -- ---- FROM ANY FRESH WORLD
 module _ (m : ZXMachine) (w : World) (fresh : Fresh m w) where
-  fresh-stands : Standing m (w .edge .colour) (atStart w) (bytesAfter m w [])
+  pub fresh-stands : Standing m (w .edge .colour) (atStart w) (bytesAfter m w [])
   unfolding summed
   fresh-stands = record { slices = refl; sound = fresh .sound; sized = fresh-sized m w fresh; inv = fresh-kept m w fresh }
 

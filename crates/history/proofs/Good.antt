@@ -25,7 +25,7 @@ use Rattle.judgement.specs.Judges.{ramFits}
 use Rattle.judgement.specs.Answers.{timedLength}
 use Rattle.judgement.specs.Order.{NoneHolds, FirstHolds, recordCauses}
 use Rattle.contracts.specs.Timed.{Lent, lentBy}
-use Rattle.contracts.specs.Calls.{plain, mreq, noMreq, portIn, portOut, byteRead, pagingRead, interruptAsked, framesAsked, pageAsked, blockAsked, shownAsked, stillAsked, help, Call, startAgain, takeTime, writeByte, writePaging, resetPassed, loadRam, ask, performed, waitCausesOf, causesOf, Portions, lentOf}
+use Rattle.contracts.specs.Calls.{plain, mreq, noMreq, portIn, portOut, byteRead, pagingRead, interruptAsked, framesAsked, pageAsked, blockAsked, shownAsked, stillAsked, fileAsked, help, Call, startAgain, takeTime, writeByte, writePaging, resetPassed, loadRam, loadScreen, ask, performed, waitCausesOf, causesOf, Portions, lentOf}
 use Rattle.contracts.proofs.Calls.{call-numbered}
 use Rattle.contracts.proofs.Wholes.{record-of, state-whole}
 
@@ -117,6 +117,7 @@ module _ (m : ZXMachine) (w : World) (sound : SoundWorld m w) (sized : Sized m w
   first-by (writePaging value answer) f = record-first _ refl f
   first-by resetPassed f = record-first [] refl f
   first-by (loadRam bytes page) f = record-first _ refl f
+  first-by (loadScreen file page) f = record-first _ refl f
   first-by (ask (byteRead rom addr) out) f = record-first _ refl f
   first-by (ask pagingRead out) f = record-first _ refl f
   first-by (ask interruptAsked out) f = record-first _ refl f
@@ -125,6 +126,7 @@ module _ (m : ZXMachine) (w : World) (sound : SoundWorld m w) (sized : Sized m w
   first-by (ask (blockAsked rom block) out) f = record-first _ refl f
   first-by (ask shownAsked out) f = record-first _ refl f
   first-by (ask (stillAsked flash) out) f = record-first _ refl f
+  first-by (ask fileAsked out) f = record-first _ refl f
   first-by (ask (help h number) out) f = clean-first _ refl f
 
   -- A machine whose record is sound never gives refusal 3, however its buffers are lent.

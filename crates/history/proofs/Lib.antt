@@ -14,3 +14,4 @@ pub mod Good
 pub mod Demand3
 pub mod Sentences
 pub mod Stills
+pub mod Files

@@ -52,7 +52,7 @@ noFrame = record { sights = []; enter = 0; inks = [] }
 abbrev pub noShot : Shot
 noShot = record { picture = []; border = [] }
 
-each-shows : (ss : List Shot) (fs : List Frame) → AllShow ss fs → (i : ℕ) → i < length fs → Shows (getD ss i noShot) (getD fs i noFrame)
+pub each-shows : (ss : List Shot) (fs : List Frame) → AllShow ss fs → (i : ℕ) → i < length fs → Shows (getD ss i noShot) (getD fs i noFrame)
 each-shows [] [] h i p = absurd (omega arith)
 each-shows [] (f ∷ fs) h i p = absurd h
 each-shows (s ∷ ss) [] h i p = absurd h

@@ -22,7 +22,7 @@ use Rattle.bus.proofs.Runs.{clocksIn, blocksIn}
 use Rattle.bus.proofs.PortClocks.{read-small, write-small}
 use Rattle.bus.proofs.Kept.{SoundWorld}
 use Rattle.contracts.specs.Timed.{Lent, lentBy, Outcome}
-use Rattle.contracts.specs.Calls.{TimedCall, plain, mreq, noMreq, portIn, portOut, Call, startAgain, takeTime, writeByte, writePaging, resetPassed, loadRam, ask, Result, waited, timedOps, opsOf, performed, timedCauses, Portions, lentOf, handedBack, Made, buffersAfter, NotStarted}
+use Rattle.contracts.specs.Calls.{TimedCall, plain, mreq, noMreq, portIn, portOut, Call, startAgain, takeTime, writeByte, writePaging, resetPassed, loadRam, loadScreen, ask, Result, waited, timedOps, opsOf, performed, timedCauses, Portions, lentOf, handedBack, Made, buffersAfter, NotStarted}
 use Rattle.contracts.proofs.Ranges.{Typed}
 use Rattle.contracts.proofs.Calls.{call-numbered}
 use Rattle.contracts.proofs.Acts.{sized-kept, Kept, timed-kept, timed-left, few-blocks, Acted, acted}
@@ -56,6 +56,7 @@ nothing f (writeByte addr value) code filled e = refl
 nothing f (writePaging value answer) code filled e = refl
 nothing f resetPassed code filled e = refl
 nothing f (loadRam bytes page) code filled e = refl
+nothing f (loadScreen file page) code filled e = refl
 nothing f (ask q out) code filled e = refl
 
 module _ (m : ZXMachine) (w : World) (sound : SoundWorld m w) (sized : Sized m w) where
@@ -100,6 +101,7 @@ module _ (m : ZXMachine) (w : World) (sound : SoundWorld m w) (sized : Sized m w
       silent-reported (writePaging value answer) _ (paged-silent (write7ffd m (w .core .paging) value)) (λ f code filled. refl)
   all-reported resetPassed first typed z = silent-reported resetPassed _ tt (λ f code filled. refl)
   all-reported (loadRam bytes page) first typed z = silent-reported (loadRam bytes page) _ tt (λ f code filled. refl)
+  all-reported (loadScreen file page) first typed z = silent-reported (loadScreen file page) _ tt (λ f code filled. refl)
   all-reported (ask q out) first typed z = silent-reported (ask q out) [] tt (λ f code filled. refl)
 
   module _ (n : Portions) where
@@ -172,6 +174,7 @@ module _ (m : ZXMachine) (w : World) (sound : SoundWorld m w) (sized : Sized m w
   port-by (writePaging value answer) c e t = tt
   port-by resetPassed c e t = tt
   port-by (loadRam bytes page) c e t = tt
+  port-by (loadScreen file page) c e t = tt
   port-by (ask q out) c e t = tt
 
   pub port-takes : (c : Made) → c .result ≡ performed (c .call) (lentOf (c .lending) l) → Typed (c .call) → NotStarted (c .call) (c .result .code) → PortTakes (c .call) c

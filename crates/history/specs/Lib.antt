@@ -2,3 +2,4 @@ pub mod Log
 pub mod Fresh
 pub mod Reports
 pub mod Demand
+pub mod Files

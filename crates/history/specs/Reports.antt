@@ -7,7 +7,7 @@ use mathlib.Core.Path.{_≡_}
 use lib.Dec.{eqb}
 use Rattle.record.specs.Words.{byteAt, wordAt, longAt}
 use Rattle.contracts.specs.Timed.{Lent}
-use Rattle.contracts.specs.Calls.{plain, mreq, noMreq, portIn, portOut, Call, startAgain, takeTime, writeByte, writePaging, resetPassed, loadRam, ask, Made, buffersAfter}
+use Rattle.contracts.specs.Calls.{plain, mreq, noMreq, portIn, portOut, Call, startAgain, takeTime, writeByte, writePaging, resetPassed, loadRam, loadScreen, ask, Made, buffersAfter}
 
 -- "Clocks reported", "Blocks reported": those of the answer's bytes, of an accepted timed call; no other call reports any
 abbrev pub reported : (List ℕ → ℕ) → Call → ℕ → List ℕ → ℕ
@@ -17,6 +17,7 @@ reported f (writeByte addr value) code filled = 0
 reported f (writePaging value answer) code filled = 0
 reported f resetPassed code filled = 0
 reported f (loadRam bytes page) code filled = 0
+reported f (loadScreen file page) code filled = 0
 reported f (ask q out) code filled = 0
 
 abbrev pub reportedClocks : Made → ℕ
@@ -63,4 +64,5 @@ PortTakes (writeByte addr value) c = Unit {0}
 PortTakes (writePaging value answer) c = Unit {0}
 PortTakes resetPassed c = Unit {0}
 PortTakes (loadRam bytes page) c = Unit {0}
+PortTakes (loadScreen file page) c = Unit {0}
 PortTakes (ask q out) c = Unit {0}

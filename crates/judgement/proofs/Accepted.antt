@@ -20,12 +20,13 @@ use Rattle.record.proofs.Soundness.{sound-facts}
 use Rattle.record.specs.Words.{Bytes}
 use Rattle.record.proofs.Round.{held-decode, held-sound, held-bytes}
 use Rattle.memory.specs.Paging.{pageExists}
+use Rattle.memory.specs.Screens.{screenLength, videoPage}
 use Rattle.ports.specs.Devices.{flagsOf, devicesLength}
 use Rattle.judgement.specs.declared.Verdict.the-variants.{Accepted}
 use Rattle.judgement.specs.Refusals.{Cause, judgedHeld, judge}
-use Rattle.judgement.specs.Judges.{ramFits, romFits, pictureFits, borderFits, timedFits, numberFits, lentFit, judgeWait, judgePort, judgeState, judgeTold, judgeRead, judgeWrite, judgeLoad, judgeRamPage, judgeBlock, judgeShown, judgeStill}
+use Rattle.judgement.specs.Judges.{ramFits, romFits, pictureFits, borderFits, timedFits, numberFits, lentFit, judgeWait, judgePort, judgeState, judgeTold, judgeRead, judgeWrite, judgeLoad, judgeRamPage, judgeBlock, judgeShown, judgeStill, judgeSaveScr, judgeLoadScr}
 use Rattle.judgement.specs.Order.{NoneHolds}
-use Rattle.judgement.specs.Ready.{OnRecord, Fit, ReadyWait, ReadyPort, ReadyTold, ReadyRead, ReadyWrite, ReadyLoad, ReadyRamPage, ReadyBlock, ReadyShown, ReadyStill}
+use Rattle.judgement.specs.Ready.{OnRecord, Fit, ReadyWait, ReadyPort, ReadyTold, ReadyRead, ReadyWrite, ReadyLoad, ReadyRamPage, ReadyBlock, ReadyShown, ReadyStill, ReadySaveScr, ReadyLoadScr}
 use Rattle.judgement.specs.Answers.{timedLength, numberLength}
 use Rattle.judgement.proofs.Judging.{never}
 use Rattle.judgement.proofs.Order.{accepted-by-none}
@@ -176,4 +177,24 @@ module _ (state : List ℕ) (bus : Bus) where
         ramIs = eqb-true ram (specsOf (bus .machine) .ram) (test 0);
         pictureIs = eqb-true picture pictureLength (test 1);
         flashIn = ltb-false 1 flash (r .1 .1 .0);
+      }
+
+  pub ready-save-scr : (ram file : ℕ) → judgeSaveScr state ram file ≡ Accepted bus → ReadySaveScr state ram file bus
+  unfolding judgeSaveScr
+  ready-save-scr ram file p =
+      let r = accepted state _ bus p in
+      let test = each (ramFits bus ram) (eqb file screenLength ∷ []) (not-false _ (r .1 .0)) in
+      record { onRecord = r .0; ramIs = eqb-true ram (specsOf (bus .machine) .ram) (test 0); fileIs = eqb-true file screenLength (test 1) }
+
+  pub ready-load-scr : (ram file page : ℕ) → judgeLoadScr state ram file page ≡ Accepted bus → ReadyLoadScr state ram file page bus
+  unfolding judgeLoadScr
+  ready-load-scr ram file page p =
+      let r = accepted state _ bus p in
+      let test = each (ramFits bus ram) (eqb file screenLength ∷ []) (not-false _ (r .1 .0)) in
+      record {
+        onRecord = r .0;
+        ramIs = eqb-true ram (specsOf (bus .machine) .ram) (test 0);
+        fileIs = eqb-true file screenLength (test 1);
+        exists = not-false (pageExists (bus .machine) page) (r .1 .1 .0);
+        video = not-false (videoPage (bus .machine) page) (r .1 .1 .1 .0);
       }

@@ -14,7 +14,7 @@ use Rattle.judgement.specs.declared.Refusal.{Refusal}
 use Rattle.judgement.specs.declared.Verdict.{Verdict}
 use Rattle.judgement.specs.declared.Verdict.the-variants.{Refused, Accepted}
 use Rattle.judgement.specs.Refusals.{Cause, judged, judgedHeld, judge}
-use Rattle.judgement.specs.Judges.{waitCauses, judgeWait, portCauses, judgePort, noCauses, judgeState, toldCauses, judgeTold, readCauses, judgeRead, writeCauses, judgeWrite, loadCauses, judgeLoad, ramPageCauses, judgeRamPage, blockCauses, judgeBlock, shownCauses, judgeShown, stillCauses, judgeStill}
+use Rattle.judgement.specs.Judges.{waitCauses, judgeWait, portCauses, judgePort, noCauses, judgeState, toldCauses, judgeTold, readCauses, judgeRead, writeCauses, judgeWrite, loadCauses, judgeLoad, ramPageCauses, judgeRamPage, blockCauses, judgeBlock, shownCauses, judgeShown, stillCauses, saveScrCauses, loadScrCauses, judgeStill, judgeSaveScr, judgeLoadScr}
 use Rattle.judgement.specs.Order.{NoneHolds, FirstHolds, allCauses, documentOrder, numbersOf, standIn, Ordered}
 use Rattle.judgement.proofs.Judging.{never}
 
@@ -150,3 +150,11 @@ module _ (state : List ℕ) where
   pub still-ordered : (ram picture flash : ℕ) → Ordered (judgeStill state ram picture flash) (allCauses state (stillCauses ram picture flash)) (recordOf state)
   unfolding judgeStill standIn
   still-ordered ram picture flash = judge-ordered state (stillCauses ram picture flash) refl
+
+  pub save-scr-ordered : (ram file : ℕ) → Ordered (judgeSaveScr state ram file) (allCauses state (saveScrCauses ram file)) (recordOf state)
+  unfolding judgeSaveScr standIn
+  save-scr-ordered ram file = judge-ordered state (saveScrCauses ram file) refl
+
+  pub load-scr-ordered : (ram file page : ℕ) → Ordered (judgeLoadScr state ram file page) (allCauses state (loadScrCauses ram file page)) (recordOf state)
+  unfolding judgeLoadScr standIn
+  load-scr-ordered ram file page = judge-ordered state (loadScrCauses ram file page) refl

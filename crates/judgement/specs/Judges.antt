@@ -1,4 +1,4 @@
--- Document 01, "Eight refusals": the causes of each call, in the stated order, over the sound record that it was lent; and the judgement by
+-- Document 01, "Eight refusals", and document 02, Q-2: the causes of each call, in the stated order, over the sound record that it was lent; and the judgement by
 -- them, once the record itself is judged. A slice comes in by its length; the state and the device record by their bytes.
 -- Assumes nothing.
 use Prim.Native.Nat.{ℕ}
@@ -11,8 +11,9 @@ use Rattle.machine.specs.Limits.{pictureLength, borderLength, pageLength, longe
 use Rattle.record.specs.declared.Bus.{Bus}
 use Rattle.record.specs.Record.{noRoom}
 use Rattle.memory.specs.Paging.{pageExists}
+use Rattle.memory.specs.Screens.{screenLength, videoPage}
 use Rattle.ports.specs.Devices.{flagsOf, devicesLength}
-use Rattle.judgement.specs.declared.Refusal.the-variants.{BadLength, BadFlag, LongWait, FramesFull, BadPage, BadNumber}
+use Rattle.judgement.specs.declared.Refusal.the-variants.{BadLength, BadFlag, LongWait, FramesFull, BadPage, NoVideoPage, BadNumber}
 use Rattle.judgement.specs.declared.Verdict.{Verdict}
 use Rattle.judgement.specs.Refusals.{Cause, cause, judge}
 use Rattle.judgement.specs.Answers.{timedLength, numberLength}
@@ -56,6 +57,10 @@ longWait clocks = cause LongWait (ltb longestWait clocks)
 -- "a RAM page above 2 (48K) or 7 (128K)"
 abbrev pub badPage : Bus → ℕ → Cause
 badPage bus page = cause BadPage (not (pageExists (bus .machine) page))
+
+-- "a page that isn't a video page" (02, Q-2)
+abbrev pub noVideoPage : Bus → ℕ → Cause
+noVideoPage bus page = cause NoVideoPage (not (videoPage (bus .machine) page))
 
 -- "a helper's number outside its range (.. block 3, still-picture flash 1)": a number above the last
 abbrev pub above : ℕ → ℕ → Cause
@@ -137,3 +142,19 @@ stillCauses ram picture flash bus = unless (ramFits bus ram && pictureFits pictu
 
 unfoldable pub judgeStill : List ℕ → ℕ → ℕ → ℕ → Verdict
 judgeStill state ram picture flash = judge state (stillCauses ram picture flash)
+
+-- screen files (02, Q-2): "a lent file of 6,912"; saving judges no page, since "the shown page always is one"
+abbrev pub screenFits : Bus → ℕ → ℕ → Bool
+screenFits bus ram file = ramFits bus ram && eqb file screenLength
+
+abbrev pub saveScrCauses : ℕ → ℕ → Bus → List Cause
+saveScrCauses ram file bus = unless (screenFits bus ram file) ∷ []
+
+unfoldable pub judgeSaveScr : List ℕ → ℕ → ℕ → Verdict
+judgeSaveScr state ram file = judge state (saveScrCauses ram file)
+
+abbrev pub loadScrCauses : ℕ → ℕ → ℕ → Bus → List Cause
+loadScrCauses ram file page bus = unless (screenFits bus ram file) ∷ badPage bus page ∷ noVideoPage bus page ∷ []
+
+unfoldable pub judgeLoadScr : List ℕ → ℕ → ℕ → ℕ → Verdict
+judgeLoadScr state ram file page = judge state (loadScrCauses ram file page)

@@ -38,9 +38,9 @@ recordCauses state = cause BadLength (not (eqb (length state) recordLength)) ∷
 abbrev pub allCauses : List ℕ → (Bus → List Cause) → List Cause
 allCauses state causes = recordCauses state ++ causes (recordOf state)
 
--- "Order: 1, record length, 3, other lengths, 4, 5, 6, 7, 8."
+-- "Order: 1, record length, 3, other lengths, 4, 5, 6, 7, 8.", and 9 "after 7" (02, Q-2)
 abbrev pub documentOrder : List ℕ
-documentOrder = 1 ∷ 2 ∷ 3 ∷ 2 ∷ 4 ∷ 5 ∷ 6 ∷ 7 ∷ 8 ∷ []
+documentOrder = 1 ∷ 2 ∷ 3 ∷ 2 ∷ 4 ∷ 5 ∷ 6 ∷ 7 ∷ 9 ∷ 8 ∷ []
 
 abbrev pub numbersOf : List Cause → List ℕ
 numbersOf causes = map (λ c. refusalNumber (c .refusal)) causes

@@ -12,6 +12,7 @@ use Rattle.record.specs.declared.Held.the-variants as held
 use Rattle.record.specs.Record.{recordLength, recordOf, heldBy, HasRoom}
 use Rattle.record.specs.Sound.{Sound}
 use Rattle.memory.specs.Paging.{pageExists}
+use Rattle.memory.specs.Screens.{screenLength, videoPage}
 use Rattle.ports.specs.Devices.{flagsOf, devicesLength}
 use Rattle.judgement.specs.Answers.{timedLength, numberLength}
 
@@ -87,3 +88,15 @@ pub record ReadyStill (state : List ℕ) (ram picture flash : ℕ) (bus : Bus) :
   pub ramIs : ram ≡ specsOf (bus .machine) .ram
   pub pictureIs : picture ≡ pictureLength
   pub flashIn : flash ≤ 1
+
+pub record ReadySaveScr (state : List ℕ) (ram file : ℕ) (bus : Bus) : Type 0 where
+  pub onRecord : OnRecord state bus
+  pub ramIs : ram ≡ specsOf (bus .machine) .ram
+  pub fileIs : file ≡ screenLength
+
+pub record ReadyLoadScr (state : List ℕ) (ram file page : ℕ) (bus : Bus) : Type 0 where
+  pub onRecord : OnRecord state bus
+  pub ramIs : ram ≡ specsOf (bus .machine) .ram
+  pub fileIs : file ≡ screenLength
+  pub exists : pageExists (bus .machine) page ≡ true
+  pub video : videoPage (bus .machine) page ≡ true

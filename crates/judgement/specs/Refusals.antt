@@ -1,4 +1,4 @@
--- Document 01, "Eight refusals": their numbers, and their order.
+-- Document 01, "Eight refusals", and refusal 9 of document 02 (Q-2): their numbers, and their order.
 -- Assumes nothing.
 use Prim.Native.Nat.{ℕ}
 use mathlib.Core.Bool.{Bool, cond}
@@ -8,12 +8,12 @@ use Rattle.record.specs.declared.Held.{Held}
 use Rattle.record.specs.declared.Held.the-variants as held
 use Rattle.record.specs.Record.{heldBy}
 use Rattle.judgement.specs.declared.Refusal.{Refusal}
-use Rattle.judgement.specs.declared.Refusal.the-variants.{BadMachine, BadLength, Unsound, BadFlag, LongWait, FramesFull, BadPage, BadNumber}
+use Rattle.judgement.specs.declared.Refusal.the-variants.{BadMachine, BadLength, Unsound, BadFlag, LongWait, FramesFull, BadPage, NoVideoPage, BadNumber}
 use Rattle.judgement.specs.declared.Causes.{Causes}
 use Rattle.judgement.specs.declared.Verdict.{Verdict}
 use Rattle.judgement.specs.declared.Verdict.the-variants.{Refused, Accepted}
 
--- the table's numbers
+-- the table's numbers; "9 for a page that isn't a video page" (02, Q-2)
 abbrev pub refusalNumber : Refusal → ℕ
 refusalNumber BadMachine = 1
 refusalNumber BadLength = 2
@@ -22,6 +22,7 @@ refusalNumber BadFlag = 4
 refusalNumber LongWait = 5
 refusalNumber FramesFull = 6
 refusalNumber BadPage = 7
+refusalNumber NoVideoPage = 9
 refusalNumber BadNumber = 8
 
 -- a condition, and the refusal that is given where it holds
@@ -37,11 +38,11 @@ unfoldable pub judged : List Cause → Bus → Verdict
 judged [] bus = Accepted bus
 judged (c ∷ cs) bus = cond (c .holds) (Refused (c .refusal)) (judged cs bus)
 
--- "other lengths, 4, 5, 6, 7, 8": the code's causes behind the record, by their names, as a list
+-- "other lengths, 4, 5, 6, 7, 8", and 9 "after 7": the code's causes behind the record, by their names, as a list
 abbrev pub inTurn : Causes → List Cause
 inTurn c =
     cause BadLength (c .length) ∷ cause BadFlag (c .flag) ∷ cause LongWait (c .wait) ∷ cause FramesFull (c .frames) ∷ cause BadPage (c .page)
-    ∷ cause BadNumber (c .number) ∷ []
+    ∷ cause NoVideoPage (c .video) ∷ cause BadNumber (c .number) ∷ []
 
 -- "Order: 1, record length, 3, other lengths, 4, 5, 6, 7, 8.": the record is judged before what depends on it
 abbrev pub judgedHeld : Held → (Bus → List Cause) → Verdict

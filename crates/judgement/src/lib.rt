@@ -1,4 +1,4 @@
-// What it is: the eight refusals of document 01, their order, and the bytes of the answers.
+// What it is: the eight refusals of document 01 and refusal 9 of document 02 (Q-2), their order, and the bytes of the answers.
 // What it promises: each judgement is the first refusal, in the stated order, whose condition holds, or the sound record where none does; each answer has exactly the stated bytes.
 // Where its definitions stand: specs/Refusals.antt (numbers and order), specs/Judges.antt (each call's conditions), specs/Answers.antt (bytes).
 ghost use mathlib.Core.Path.{_≡_};
@@ -6,7 +6,7 @@ ghost use Prim.Native.Nat.{_<_};
 ghost use lib.ListN.{length, replicate};
 ghost use Rattle.record.specs.Record.{flagByte};
 ghost use Rattle.judgement.specs.Refusals.{refusalNumber, judged, inTurn};
-ghost use Rattle.judgement.specs.Judges.{numberFits, ramFits, romFits, lentFit, judgeWait, judgePort, judgeState, judgeTold, judgeRead, judgeWrite, judgeLoad, judgeRamPage, judgeBlock, judgeShown, judgeStill, framesFull, badPage};
+ghost use Rattle.judgement.specs.Judges.{numberFits, ramFits, romFits, lentFit, judgeWait, judgePort, judgeState, judgeTold, judgeRead, judgeWrite, judgeLoad, judgeRamPage, judgeBlock, judgeShown, judgeStill, judgeSaveScr, judgeLoadScr, framesFull, badPage, noVideoPage, screenFits};
 ghost use Rattle.judgement.specs.Answers.{timedLength, timedAnswer, numberLength, numberAnswer, refusedAnswer};
 use record::Bus;
 use record::Held;
@@ -24,6 +24,7 @@ pub enum Refusal {
     LongWait,
     FramesFull,
     BadPage,
+    NoVideoPage,
     BadNumber,
 }
 
@@ -45,17 +46,19 @@ pub fn number(e: Refusal) -> u8
         Refusal::LongWait => 5,
         Refusal::FramesFull => 6,
         Refusal::BadPage => 7,
+        Refusal::NoVideoPage => 9,
         Refusal::BadNumber => 8,
     }
 }
 
-// The causes behind the record, each by whether it holds, in their order: "other lengths, 4, 5, 6, 7, 8".
+// The causes behind the record, each by whether it holds, in their order: "other lengths, 4, 5, 6, 7, 8", and 9 "after 7".
 struct Causes {
     length: bool,
     flag: bool,
     wait: bool,
     frames: bool,
     page: bool,
+    video: bool,
     number: bool,
 }
 
@@ -66,6 +69,7 @@ const NONE: Causes = Causes {
     wait: false,
     frames: false,
     page: false,
+    video: false,
     number: false,
 };
 
@@ -87,6 +91,9 @@ fn first_cause(bus: Bus, causes: Causes) -> Verdict
     }
     if causes.page {
         return Verdict::Refused(Refusal::BadPage);
+    }
+    if causes.video {
+        return Verdict::Refused(Refusal::NoVideoPage);
     }
     if causes.number {
         return Verdict::Refused(Refusal::BadNumber);
@@ -367,6 +374,64 @@ pub fn judge_still(state: &[u8], ram: usize, picture: usize, flash: u32) -> Verd
                 Causes {
                     length: !fit,
                     number: 1 < flash,
+                    ..NONE
+                },
+            )
+        }
+    }
+}
+
+// The slices of a screen file's calls: RAM, and the file.
+fn screen_fits(bus: Bus, ram: usize, file: usize) -> bool
+    ensures { λ r. ⌜ r ≡ screenFits bus ram file ⌝ }
+{
+    ram_fits(bus, ram) & (file == memory::SCREEN_LENGTH)
+}
+
+// The shown page is always a video page, so that saving judges none.
+pub fn judge_save_scr(state: &[u8], ram: usize, file: usize) -> Verdict
+    ensures { λ r. ⌜ r ≡ judgeSaveScr (now (state .entry)) ram file ⌝ }
+{
+    let v = judge_state(state);
+    match v {
+        Verdict::Refused(e) => Verdict::Refused(e),
+        Verdict::Accepted(bus) => {
+            let fit = screen_fits(bus, ram, file);
+            first_cause(
+                bus,
+                Causes {
+                    length: !fit,
+                    ..NONE
+                },
+            )
+        }
+    }
+}
+
+// No page of the machine that its screen may show.
+fn no_video_page(bus: Bus, page: u32) -> bool
+    ensures { λ r. ⌜ r ≡ noVideoPage bus page .holds ⌝ }
+{
+    let m = bus.machine;
+    !memory::is_video_page(m, page)
+}
+
+pub fn judge_load_scr(state: &[u8], ram: usize, file: usize, page: u32) -> Verdict
+    ensures { λ r. ⌜ r ≡ judgeLoadScr (now (state .entry)) ram file page ⌝ }
+{
+    let v = judge_state(state);
+    match v {
+        Verdict::Refused(e) => Verdict::Refused(e),
+        Verdict::Accepted(bus) => {
+            let fit = screen_fits(bus, ram, file);
+            let missing = page_missing(bus, page);
+            let unshown = no_video_page(bus, page);
+            first_cause(
+                bus,
+                Causes {
+                    length: !fit,
+                    page: missing,
+                    video: unshown,
                     ..NONE
                 },
             )

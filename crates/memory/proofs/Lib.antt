@@ -4,3 +4,4 @@ pub mod Places
 pub mod Locking
 pub mod Stored
 pub mod Agree
+pub mod Screens

@@ -1,3 +1,4 @@
 pub mod Paging
 pub mod Memory
+pub mod Screens
 pub mod Pages

@@ -64,7 +64,7 @@ startOf m (Ram at) = specsOf m .rom + at
 abbrev pub partStart : ZXMachine → Page → ℕ
 partStart m p = startOf m (placeIn p 0)
 
--- "page load (16,384 lent bytes into a RAM page)": RAM afterwards, a store from the page's first byte on
+-- "page load (16,384 lent bytes into a RAM page)", and a screen file read into one (02, Q-2): RAM afterwards, a store from the page's first byte on
 abbrev pub loaded : ℕ → List ℕ → List ℕ → List ℕ
 loaded p bytes ram = stored (pageLength * p) bytes ram
 

@@ -1,6 +1,6 @@
 // What it is: the pages of ROM and RAM and how the 7FFD byte maps them, after rustzx's memory.rs and the paging and memory half of controller.rs.
-// What it promises: the page at each block, the shown page, contended addresses, the 7FFD write, bytes read and written, pages handed out and loaded are exactly what document 01's "Bus calls" says, on both machines, at every 7FFD byte and every address. Only a function that is lent ROM or RAM asks anything of its caller: their lengths.
-// Where its definitions stand: specs/Paging.antt (the map, the shown page, contention, the 7FFD write), specs/Memory.antt (places, bytes, parts, loads), specs/Pages.antt (the public pages, apart from document 01).
+// What it promises: the page at each block, the shown page, contended addresses, the 7FFD write, bytes read and written, pages handed out and loaded are exactly what document 01's "Bus calls" says, on both machines, at every 7FFD byte and every address; and screen files what document 02 says, Q-2. Only a function that is lent ROM or RAM asks anything of its caller: their lengths.
+// Where its definitions stand: specs/Paging.antt (the map, the shown page, contention, the 7FFD write), specs/Memory.antt (places, bytes, parts, loads), specs/Screens.antt (screen files, video pages), specs/Pages.antt (the public pages, apart from document 01).
 ghost use mathlib.Core.Path.{_≡_};
 ghost use Prim.Native.Nat.{_+_, _*_, _/_, _≤_};
 ghost use lib.ListN.{length};
@@ -8,7 +8,11 @@ ghost use Rattle.machine.specs.Numbers.{specsOf};
 ghost use Rattle.machine.specs.Limits.{pageLength};
 ghost use Rattle.memory.specs.Paging.{pageAt, shownPage, addrContended, write7ffd, pagedCode, pagingAfter, lastPage, pageExists};
 ghost use Rattle.memory.specs.Memory.{placeOf, peeked, poked, Holds, pagePart, ramPage, partStart, loaded};
+ghost use Rattle.memory.specs.Screens.{screenLength, screenFile, videoPage};
 use machine::ZXMachine;
+
+// Bytes of a screen file: bitmap, then attributes.
+pub const SCREEN_LENGTH: usize = 6912;
 
 // A page of 16 KiB, by its number in ROM or in RAM.
 pub enum Page {
@@ -214,12 +218,31 @@ fn rom_size(m: ZXMachine) -> u32
     }
 }
 
-// A page's 16,384 bytes loaded into RAM.
-pub fn load_page(ram: &mut [u8], page: u32, src: &[u8])
-    requires { ⌜ (length (now src) ≡ pageLength) × (pageLength * page + pageLength ≤ length (now ram)) ⌝ }
+// Bytes loaded into a RAM page from its first byte on: a whole page, or a screen file.
+pub fn load(ram: &mut [u8], page: u32, src: &[u8])
+    requires { ⌜ pageLength * page + length (now src) ≤ length (now ram) ⌝ }
     ensures { λ _. ⌜ now (ram .exit) ≡ loaded page (now (src .entry)) (now (ram .entry)) ⌝ }
 {
     let at = machine::PAGE_LENGTH * page as usize;
-    let end = at + machine::PAGE_LENGTH;
+    let end = at + src.len();
     bytes::copy(src, &mut ram[at..end]);
+}
+
+// Whether a page of the machine is one that its screen may show: refusal 9 where not.
+pub fn is_video_page(m: ZXMachine, page: u32) -> bool
+    ensures { λ r. ⌜ r ≡ videoPage m page ⌝ }
+{
+    match m {
+        ZXMachine::Sinclair48K => page == 0,
+        ZXMachine::Sinclair128K => (page == 5) | (page == 7),
+    }
+}
+
+// The screen file of a RAM page.
+pub fn save_screen(ram: &[u8], page: u8, file: &mut [u8])
+    requires { ⌜ (length (now file) ≡ screenLength) × (pageLength * page + pageLength ≤ length (now ram)) ⌝ }
+    ensures { λ _. ⌜ now (file .exit) ≡ screenFile (ramPage page (now (ram .entry))) ⌝ }
+{
+    let from = machine::PAGE_LENGTH * page as usize;
+    bytes::copy(&ram[from..from + SCREEN_LENGTH], file);
 }

@@ -7,7 +7,7 @@ use mathlib.Core.Path.{_≡_, refl, sym, _∙_, ap}
 use contract.Lifetimes.{Lfts}
 use Rattle.contracts.specs.Timed.{Lent, lent, Outcome, outcome, start}
 use Rattle.contracts.specs.Plain.{told, Changed, Repaged}
-use Rattle.contracts.specs.Calls.{plain, mreq, noMreq, portIn, portOut, Helper, lineAddr, lineOf, columnOf, attrRowOf, attrColumnOf, colourBits, Question, byteRead, pagingRead, interruptAsked, framesAsked, pageAsked, blockAsked, shownAsked, stillAsked, help, Call, startAgain, takeTime, writeByte, writePaging, resetPassed, loadRam, ask, Result, result, withRam, withState, waited, helpedBy, replied, performed, lentOf, Made, buffersAfter, Obeyed}
+use Rattle.contracts.specs.Calls.{plain, mreq, noMreq, portIn, portOut, Helper, lineAddr, lineOf, columnOf, attrRowOf, attrColumnOf, colourBits, Question, byteRead, pagingRead, interruptAsked, framesAsked, pageAsked, blockAsked, shownAsked, stillAsked, fileAsked, help, Call, startAgain, takeTime, writeByte, writePaging, resetPassed, loadRam, loadScreen, ask, Result, result, withRam, withState, waited, helpedBy, replied, performed, lentOf, Made, buffersAfter, Obeyed}
 use Rattle.contracts.proofs.Ranges.{TypedQuestion, Typed, AllTyped}
 use Rattle.contracts.specs.Helpers.{helperCall}
 use Rattle.runs.specs.Run.{Slice, slice, Where, HelperAdmits, Replies, Steps, Run, Begins}
@@ -30,6 +30,7 @@ ask-range (pageAsked page) at l out code filled s = s .1 .0 .1 .1 .0 .1
 ask-range (blockAsked rom block) at l out code filled s = s .1 .0 .1 .1 .1 .0 .1
 ask-range shownAsked at l out code filled s = tt
 ask-range (stillAsked flash) at l out code filled s = s .1 .0 .1 .1 .1 .0 .1
+ask-range fileAsked at l out code filled s = tt
 ask-range (help h n) at l out code filled s = help-range h (s .0) n (slice at 0 out) code (slice at 0 filled) (s .1)
 
 in-range : (k : Call) (at : ℕ → Where) (l : Lent) (r : Result) → Steps k at l r → Typed k
@@ -43,6 +44,7 @@ in-range (writeByte addr value) at l r s = (s .1 .0 .1 .1 .0 .1, s .1 .0 .1 .1 .
 in-range (writePaging value answer) at l r s = s .1 .0 .1 .0 .1
 in-range resetPassed at l r s = tt
 in-range (loadRam bytes page) at l r s = s .1 .0 .1 .1 .1 .0 .1
+in-range (loadScreen file page) at l r s = s .1 .0 .1 .1 .1 .0 .1
 in-range (ask q out) at l r s = ask-range q at l out (r .code) (r .filled) (s .0)
 
 -- ---- what is returned and left
@@ -66,6 +68,7 @@ reply-is (pageAsked page) at l out code filled s = s .1 .1
 reply-is (blockAsked rom block) at l out code filled s = s .1 .1
 reply-is shownAsked at l out code filled s = s .1 .1
 reply-is (stillAsked flash) at l out code filled s = ap (λ (c : Changed). told (c .code) (c .slice)) (s .1 .1)
+reply-is fileAsked at l out code filled s = ap (λ (c : Changed). told (c .code) (c .slice)) (s .1 .1)
 reply-is (help h n) at l out code filled s = helper-is h (s .0) n (slice at 0 out) code (slice at 0 filled) (s .1)
 
 -- a timed call is lent RAM to read alone
@@ -91,6 +94,8 @@ step-is (writePaging value answer) at l r s =
 step-is resetPassed at l r s =
     (λ i. result (r .code) (s .2 i) (s .3 i)) ∙ ap (λ (c : Changed). result (c .code) (withState l (c .slice)) []) (s .1 .1)
 step-is (loadRam bytes page) at l r s =
+    (λ i. result (r .code) (s .2 i) (s .3 i)) ∙ ap (λ (c : Changed). result (c .code) (withRam l (c .slice)) []) (s .1 .1)
+step-is (loadScreen file page) at l r s =
     (λ i. result (r .code) (s .2 i) (s .3 i)) ∙ ap (λ (c : Changed). result (c .code) (withRam l (c .slice)) []) (s .1 .1)
 step-is (ask q out) at l r s =
     let e = reply-is q at l out (r .code) (r .filled) (s .0) in

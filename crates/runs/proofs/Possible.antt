@@ -2,27 +2,26 @@
 -- definition. So what is said of all runs is not said of nothing.
 -- Assumes nothing.
 use Prim.Native.Nat.{ℕ, _<_, _^_, _*_}
-use mathlib.Core.Bool.{Bool, true, false, cond}
+use mathlib.Core.Bool.{Bool, true, false}
 use mathlib.Core.List.{List, [], _∷_}
 use mathlib.Core.Path.{_≡_, refl, sym, _∙_, ap}
 use native.Mathlib.Omega.{arith}
 use lib.Dec.{eqb}
 use lib.ListN.{length}
 use borrow.Author.Tests.{eqb-true, eqb-false, ltb-false}
-use Rattle.laws.proofs.Cases.{by-bool}
 use Rattle.machine.specs.declared.ZXMachine.{ZXMachine}
 use Rattle.machine.specs.Limits.{longestWait}
 use Rattle.ports.specs.Devices.{devicesOf}
 use Rattle.bus.specs.World.{Core, World}
-use Rattle.bus.specs.Time.{lasts, Op, step, colour, silent, paged, store, unpass, closes, inCore, does, worldAfter}
+use Rattle.bus.specs.Time.{Op, does, worldAfter}
 use Rattle.bus.specs.Turns.{Part, fresh}
 use Rattle.bus.proofs.Runs.{ran-world}
-use Rattle.bus.proofs.TimedCalls.{AllInCall, plain-timed, address-timed, read-timed, write-timed}
+use Rattle.bus.proofs.TimedCalls.{AllInCall, op-ram, address-timed, read-timed, write-timed}
 use Rattle.judgement.specs.declared.Verdict.{Verdict}
 use Rattle.judgement.specs.declared.Verdict.the-variants.{Refused, Accepted}
 use Rattle.judgement.specs.Order.{NoneHolds}
-use Rattle.contracts.specs.Timed.{Lent, lentWorld, lent, Outcome, outcome, timedCall, judgeWaitOf, judgePortOf, waitInternal, waitAt, readIo, writeIo}
-use Rattle.contracts.specs.Calls.{TimedCall, plain, mreq, noMreq, portIn, portOut, Helper, lineAddr, lineOf, columnOf, attrRowOf, attrColumnOf, colourBits, Question, byteRead, pagingRead, interruptAsked, framesAsked, pageAsked, blockAsked, shownAsked, stillAsked, help, Call, startAgain, takeTime, writeByte, writePaging, resetPassed, loadRam, ask, Result, waited, timedOps, helpedBy, replied, performed, timedCauses}
+use Rattle.contracts.specs.Timed.{Lent, lentWorld, lent, outcome, timedCall, judgeWaitOf, judgePortOf, waitInternal, waitAt, readIo, writeIo}
+use Rattle.contracts.specs.Calls.{TimedCall, plain, mreq, noMreq, portIn, portOut, Helper, lineAddr, lineOf, columnOf, attrRowOf, attrColumnOf, colourBits, Question, byteRead, pagingRead, interruptAsked, framesAsked, pageAsked, blockAsked, shownAsked, stillAsked, fileAsked, help, Call, startAgain, takeTime, writeByte, writePaging, resetPassed, loadRam, loadScreen, ask, Result, waited, timedOps, helpedBy, replied, performed, timedCauses}
 use Rattle.contracts.proofs.Ranges.{TypedQuestion, Typed}
 use Rattle.contracts.proofs.Acts.{timedValue}
 use Rattle.contracts.specs.Helpers.{helperCall}
@@ -30,18 +29,10 @@ use Rattle.contracts.proofs.Calls.{call-numbered, call-refused}
 use Rattle.runs.specs.Run.{slice, Where, HelperAdmits, Replies, Steps}
 
 -- ---- a timed call leaves RAM as it was
-ram-by : (m : ZXMachine) (o : Op) (c : Core) → AllInCall m (o ∷ []) → inCore m o c .ram ≡ c .ram
-unfolding inCore
-ram-by m (step h n) c i = by-bool (λ (d : Core). d .ram ≡ c .ram) (closes m (lasts h n) c) (λ _. refl) (λ _. refl)
-ram-by m (colour k) c i = refl
-ram-by m (silent (paged v)) c i = refl
-ram-by m (silent (store at bytes)) c i = absurd (i .0)
-ram-by m (silent unpass) c i = absurd (i .0)
-
 ram-stays : (m : ZXMachine) (os : List Op) (w : World) → AllInCall m os → worldAfter m os w .core .ram ≡ w .core .ram
 unfolding worldAfter
 ram-stays m [] w i = refl
-ram-stays m (o ∷ os) w i = ram-stays m os (does m o w) (i .1) ∙ ram-by m o (w .core) (i .0, tt)
+ram-stays m (o ∷ os) w i = ram-stays m os (does m o w) (i .1) ∙ op-ram m o (w .core) (i .0)
 
 timed-ram : (f : ZXMachine → Part) (value : ZXMachine → Core → ℕ) (l : Lent) (answer : List ℕ) → ((m : ZXMachine) (c : Core) → AllInCall m (f m c))
     → (v : Verdict) → timedCall f value l answer v .slices .ram ≡ l .ram
@@ -98,6 +89,7 @@ QuestionRoomy (pageAsked page) = Unit {0}
 QuestionRoomy (blockAsked rom block) = Roomy rom
 QuestionRoomy shownAsked = Unit {0}
 QuestionRoomy (stillAsked flash) = Unit {0}
+QuestionRoomy fileAsked = Unit {0}
 QuestionRoomy (help h n) = Unit {0}
 
 abbrev pub TimedRoomy : TimedCall → Type 0
@@ -114,6 +106,7 @@ CallRoomy (writeByte addr value) = Unit {0}
 CallRoomy (writePaging value answer) = Roomy answer
 CallRoomy resetPassed = Unit {0}
 CallRoomy (loadRam bytes page) = Roomy bytes
+CallRoomy (loadScreen file page) = Roomy file
 CallRoomy (ask q out) = QuestionRoomy q × Roomy out
 
 -- ---- THE STEP OF EACH CALL
@@ -158,6 +151,7 @@ module _ (at : ℕ → Where) (l : Lent) (r : LentRoomy l) where
   ask-on (blockAsked rom block) out typed own = (([], ([], ([], ([], tt)))), ((room (l .state) (r .state), (room rom (own .0), (room (l .ram) (r .ram), ((refl, typed), (room out (own .1), tt))))), refl))
   ask-on shownAsked out typed own = (([], ([], ([], ([], tt)))), ((room (l .state) (r .state), (room (l .a) (r .a), (room (l .b) (r .b), (room out (own .1), tt)))), refl))
   ask-on (stillAsked flash) out typed own = (([], ([], ([], tt))), ((room (l .state) (r .state), (room (l .ram) (r .ram), (room out (own .1), ((refl, typed), tt)))), refl))
+  ask-on fileAsked out typed own = (([], ([], ([], tt))), ((room (l .state) (r .state), (room (l .ram) (r .ram), (room out (own .1), tt))), refl))
   ask-on (help h n) out typed own = (([], tt), helper-on h n out typed (own .1))
 
   -- EVERY CALL HAS A STEP.
@@ -169,4 +163,5 @@ module _ (at : ℕ → Where) (l : Lent) (r : LentRoomy l) where
   goes-on (writePaging value answer) typed own = (([], ([], tt)), ((room (l .state) (r .state), ((refl, typed), (room answer own, tt))), refl), refl)
   goes-on resetPassed typed own = (([], tt), ((room (l .state) (r .state), tt), refl), refl, refl)
   goes-on (loadRam bytes page) typed own = (([], ([], ([], tt))), ((room (l .state) (r .state), (room (l .ram) (r .ram), (room bytes own, ((refl, typed), tt)))), refl), refl, refl)
+  goes-on (loadScreen file page) typed own = (([], ([], ([], tt))), ((room (l .state) (r .state), (room (l .ram) (r .ram), (room file own, ((refl, typed), tt)))), refl), refl, refl)
   goes-on (ask q out) typed own = (ask-on q out typed own, refl)

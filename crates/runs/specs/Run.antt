@@ -11,7 +11,7 @@ use denote.Ref.{RefT}
 use denote.Triple.Clauses.{AtExit}
 use borrow.Fn.Kinds.{PK, RK, Out, Dens, GoodsP, resT, endedOf}
 use Rattle.contracts.specs.Timed.{Lent}
-use Rattle.contracts.specs.Calls.{plain, mreq, noMreq, portIn, portOut, Helper, lineAddr, lineOf, columnOf, attrRowOf, attrColumnOf, colourBits, Question, byteRead, pagingRead, interruptAsked, framesAsked, pageAsked, blockAsked, shownAsked, stillAsked, help, Call, startAgain, takeTime, writeByte, writePaging, resetPassed, loadRam, ask, Result, result, withRam, withState, lentOf, Made, buffersAfter}
+use Rattle.contracts.specs.Calls.{plain, mreq, noMreq, portIn, portOut, Helper, lineAddr, lineOf, columnOf, attrRowOf, attrColumnOf, colourBits, Question, byteRead, pagingRead, interruptAsked, framesAsked, pageAsked, blockAsked, shownAsked, stillAsked, fileAsked, help, Call, startAgain, takeTime, writeByte, writePaging, resetPassed, loadRam, loadScreen, ask, Result, result, withRam, withState, lentOf, Made, buffersAfter}
 use Rattle.ulb_start.proofs.ulb_start.Reads as ulb-start
 use Rattle.ulb_start.proofs.ulb_start.Kinds as kinds-start
 use Rattle.ulb_wait_internal.proofs.ulb_wait_internal.Reads as ulb-wait-internal
@@ -44,6 +44,10 @@ use Rattle.ulb_state.proofs.ulb_frames_count.Reads as ulb-frames-count
 use Rattle.ulb_state.proofs.ulb_frames_count.Kinds as kinds-frames-count
 use Rattle.ulb_state.proofs.ulb_reset_frame_counter.Reads as ulb-reset-frame-counter
 use Rattle.ulb_state.proofs.ulb_reset_frame_counter.Kinds as kinds-reset-frame-counter
+use Rattle.ulb_scr.proofs.ulb_save_scr.Reads as ulb-save-scr
+use Rattle.ulb_scr.proofs.ulb_save_scr.Kinds as kinds-save-scr
+use Rattle.ulb_scr.proofs.ulb_load_scr.Reads as ulb-load-scr
+use Rattle.ulb_scr.proofs.ulb_load_scr.Kinds as kinds-load-scr
 use Rattle.ulb_pictures.proofs.ulb_shown_picture.Reads as ulb-shown-picture
 use Rattle.ulb_pictures.proofs.ulb_shown_picture.Kinds as kinds-shown-picture
 use Rattle.ulb_pictures.proofs.ulb_still_picture.Reads as ulb-still-picture
@@ -139,6 +143,10 @@ Replies (stillAsked flash) at l out code filled =
     (κs : Lfts 3) × Admits 3 kinds-still-picture.ps kinds-still-picture.r ulb-still-picture.Post κs
     (slice at 0 (l .state) & slice at 1 (l .ram) & slice at 2 out & flash & tt) code
     (slice at 0 (l .state) & slice at 1 (l .ram) & slice at 2 filled & flash & tt)
+Replies fileAsked at l out code filled =
+    (κs : Lfts 3) × Admits 3 kinds-save-scr.ps kinds-save-scr.r ulb-save-scr.Post κs
+    (slice at 0 (l .state) & slice at 1 (l .ram) & slice at 2 out & tt) code
+    (slice at 0 (l .state) & slice at 1 (l .ram) & slice at 2 filled & tt)
 Replies (help h n) at l out code filled = (κs : Lfts 1) × HelperAdmits h κs n (slice at 0 out) code (slice at 0 filled)
 
 -- ANY CALL, on what is lent of the machine. A slice that is lent to be read comes back as it was; so do those that are not lent.
@@ -194,6 +202,12 @@ Steps (loadRam bytes page) at l r =
     (κs : Lfts 3) × Admits 3 kinds-load-page.ps kinds-load-page.r ulb-load-page.Post κs
     (slice at 0 (l .state) & slice at 1 (l .ram) & slice at 2 bytes & page & tt) (r .code)
     (slice at 0 (l .state) & slice at 1 (r .slices .ram) & slice at 2 bytes & page & tt)
+    × (r .slices ≡ withRam l (r .slices .ram))
+    × (r .filled ≡ [])
+Steps (loadScreen file page) at l r =
+    (κs : Lfts 3) × Admits 3 kinds-load-scr.ps kinds-load-scr.r ulb-load-scr.Post κs
+    (slice at 0 (l .state) & slice at 1 (l .ram) & slice at 2 file & page & tt) (r .code)
+    (slice at 0 (l .state) & slice at 1 (r .slices .ram) & slice at 2 file & page & tt)
     × (r .slices ≡ withRam l (r .slices .ram))
     × (r .filled ≡ [])
 Steps (ask q out) at l r = Replies q at l out (r .code) (r .filled) × (r .slices ≡ l)

@@ -81,7 +81,7 @@ turned : {A : Type 0} (t : Bool) (x y : A) → cond (not t) x y ≡ cond t y x
 turned true x y = refl
 turned false x y = refl
 
--- RAM with a page cut out and bytes put in its place: the page load, where they are a page's (memory, `loaded-cut`)
+-- RAM with a page cut out and bytes put in its place: the page load, where they are a page's (memory, `page-cut`)
 abbrev pub cut : ℕ → List ℕ → List ℕ → List ℕ
 cut p bytes ram = take (16384 * p) ram ++ bytes ++ drop (16384 * p + 16384) ram
 

@@ -19,7 +19,7 @@ use Rattle.memory.specs.Paging as paging
 use Rattle.memory.specs.Paging.{bitSet, memoryMap, pageAt, shownPage, pageExists, pagedCode}
 use Rattle.memory.specs.Memory.{placeIn, placeOf, pokedIn, poked, ramPage, loaded}
 use Rattle.memory.proofs.Places.{map-holds, exists-fits}
-use Rattle.memory.proofs.Stored.{loaded-cut}
+use Rattle.memory.proofs.Stored.{page-cut}
 use Rattle.bus.specs.World.{Core, Screen, World}
 use Rattle.bus.specs.Time.{store, paged, silent, inCore, inScreen, inEdge, does, worldAfter}
 use Rattle.bus.specs.Calls.{pagingOps, pagingWrite}
@@ -336,7 +336,7 @@ unfolding loadAndRefresh inCore inScreen inEdge
 load-related m rom c w p bytes r there whole =
     let fits : 16384 * p + 16384 ≤ length (w .core .ram) = omega (arith, r .ramLong, exists-fits (ourMachine m) p there) in
     let mem : ZXMemory = record { rom = c .memory .rom; ram = cut p bytes (c .memory .ram); map = c .memory .map } in
-    let same : mem .ram ≡ loaded p bytes (w .core .ram) = ap (cut p bytes) (r .memory .ram) ∙ sym (loaded-cut p bytes (w .core .ram) whole fits) in
+    let same : mem .ram ≡ loaded p bytes (w .core .ram) = ap (cut p bytes) (r .memory .ram) ∙ sym (page-cut p bytes (w .core .ram) (rw whole fits) whole) in
     let long : length (loaded p bytes (w .core .ram)) ≡ specsOf (ourMachine m) .ram = length-sets (w .core .ram) (16384 * p) bytes ∙ r .ramLong in
     let f = refresh-is m mem (c .screen) (w .core) (inCore (ourMachine m) (silent (store (16384 * p) bytes)) (w .core)) (w .screen) (r .screen) refl refl (sym same) (ap length same ∙ long) in
     record {

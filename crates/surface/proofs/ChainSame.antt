@@ -5,7 +5,6 @@ use Prim.Native.Nat.{ℕ}
 use mathlib.Core.Path.{_≡_, refl, sym, ap, _∙_, subst}
 use mathlib.Core.Bool.{true}
 use mathlib.Core.List.{List, [], _∷_}
-use lib.Dec.{eqb}
 use lib.ListN.{length}
 use borrow.Author.Tests.{eqb-true, not-false}
 use Rattle.laws.proofs.Conjunction.{each}
@@ -22,15 +21,14 @@ use Rattle.bus.specs.World.{World, busOf, started, Sized}
 use Rattle.bus.specs.Time.{worldAfter}
 use Rattle.bus.proofs.Lengths.{started-sized}
 use Rattle.bus.proofs.Kept.{SoundWorld, started-sound}
-use Rattle.judgement.specs.declared.Verdict.the-variants.{Accepted}
 use Rattle.judgement.specs.Judges.{romFits}
 use Rattle.judgement.specs.Answers.{numberLength}
 use Rattle.judgement.specs.Order.{NoneHolds, Numbered}
-use Rattle.judgement.proofs.Order.{state-ordered, wait-ordered, port-ordered, told-ordered, read-ordered, write-ordered, load-ordered, still-ordered}
-use Rattle.contracts.specs.Timed.{Lent, lentBy, Outcome, lentWorld, judgeWaitOf, judgePortOf, start}
-use Rattle.contracts.specs.Plain.{Told, told, Changed}
+use Rattle.judgement.proofs.Order.{state-ordered, wait-ordered, port-ordered, told-ordered, read-ordered, write-ordered, load-ordered, still-ordered, save-scr-ordered, load-scr-ordered}
+use Rattle.contracts.specs.Timed.{Lent, lentBy, Outcome, lentWorld, start}
+use Rattle.contracts.specs.Plain.{Told, Changed}
 use Rattle.contracts.specs.Helpers.{helperCall}
-use Rattle.contracts.specs.Calls.{TimedCall, plain, mreq, noMreq, portIn, portOut, Helper, lineAddr, lineOf, columnOf, attrRowOf, attrColumnOf, colourBits, Question, byteRead, pagingRead, interruptAsked, framesAsked, pageAsked, blockAsked, shownAsked, stillAsked, help, Call, startAgain, takeTime, writeByte, writePaging, resetPassed, loadRam, ask, Result, result, withRam, withState, waited, opsOf, helpedBy, replied, performed, timedCauses, questionCauses, causesOf, refusedFilled, lentOf, handedBack, Made, buffersAfter, Obeyed, NotStarted, NoSecondStart}
+use Rattle.contracts.specs.Calls.{TimedCall, plain, mreq, noMreq, portIn, portOut, Helper, lineAddr, lineOf, columnOf, attrRowOf, attrColumnOf, colourBits, Question, byteRead, pagingRead, interruptAsked, framesAsked, pageAsked, blockAsked, shownAsked, stillAsked, fileAsked, help, Call, startAgain, takeTime, writeByte, writePaging, resetPassed, loadRam, loadScreen, ask, Result, result, withRam, withState, waited, opsOf, helpedBy, replied, performed, timedCauses, questionCauses, causesOf, refusedFilled, lentOf, handedBack, Made, buffersAfter, Obeyed, NotStarted, NoSecondStart}
 use Rattle.contracts.proofs.Ranges.{Typed, AllTyped}
 use Rattle.contracts.proofs.Still.{still-of}
 use Rattle.contracts.proofs.Calls.{call-numbered, call-refused}
@@ -44,12 +42,12 @@ use Rattle.rustzx.specs.Memory.{ramPageData, blockData}
 use Rattle.rustzx.specs.Calls as rustCalls
 use Rattle.rustzx.specs.Calls.{Given}
 use Rattle.surface.specs.Same.{SameLent, SameStart, SameTimed, SameHelp}
-use Rattle.surface.specs.Chain.{rustTimed, ValueOf, rustHelper, LeadsTo, SameReply, SameAnswer, SameCall, Unaltered, leftOn, AllSame, OwnRomAsked, OwnRom, OneRom}
+use Rattle.surface.specs.Chain.{rustTimed, ValueOf, rustHelper, LeadsTo, SameReply, SameAnswer, SameCall, leftOn, AllSame, OwnRomAsked, OwnRom, OneRom}
 use Rattle.surface.proofs.OnMachine.{own}
 use Rattle.surface.proofs.Judged.{settled, rom-long}
 use Rattle.surface.proofs.StartSame.{start-same}
 use Rattle.surface.proofs.TimedSame.{wait-same, mreq-same, no-mreq-same, read-same, write-same}
-use Rattle.surface.proofs.PlainSame.{read-internal-same, read-7ffd-same, int-active-same, frames-count-same, write-internal-same, load-page-same, reset-same, write-7ffd-same}
+use Rattle.surface.proofs.PlainSame.{read-internal-same, read-7ffd-same, int-active-same, frames-count-same, write-internal-same, load-page-same, load-scr-same, save-scr-same, reset-same, write-7ffd-same}
 use Rattle.surface.proofs.PartSame.{ram-page-told-same, block-told-same, shown-told-same}
 use Rattle.surface.proofs.HelperSame.{line-addr-same, line-rel-same, col-rel-same, attr-row-same, attr-col-same, from-bits-same}
 
@@ -167,6 +165,8 @@ module _ (rom : List ℕ) (c : ZXController) (l : Lent) (s : SameLent rom c l) w
       record { next = x .given .controller; same = (x, ended _ (x .given) (x .ends)); leaves = told-call (blockData (c .memory) block) (x .given) (x .ends) })
   reply-same (stillAsked flash) picture its h =
       record { next = c; same = (ap (λ (x : Changed). x .slice) (still-of (l .state) (l .ram) picture flash bus (still-ordered (l .state) (length (l .ram)) (length picture) flash .noneAccepts h)), refl); leaves = s }
+  reply-same fileAsked file its h =
+      record { next = c; same = (save-scr-same bus (l .ram) (l .a) (l .b) (l .border) rom c (here .machine) (here .related) (l .state) file (save-scr-ordered (l .state) (length (l .ram)) (length file) .noneAccepts h), refl); leaves = s }
   reply-same (help helper n) answer its h = record { next = c; same = (helped-same helper n answer (eqb-true (length answer) numberLength (not-false _ (h .0))), refl); leaves = s }
 
   -- ---- ONE CALL, accepted, on the buffers that hold the Rust's machine.
@@ -198,6 +198,10 @@ module _ (rom : List ℕ) (c : ZXController) (l : Lent) (s : SameLent rom c l) w
   one-call (loadRam bytes page) first typed its h =
       let x = load-page-same bus (l .ram) (l .a) (l .b) (l .border) rom c (here .machine) (here .related) (l .state) bytes page
       (load-ordered (l .state) (length (l .ram)) (length bytes) page .noneAccepts h) in
+      record { next = x .given .controller; answer = ended _ (x .given) (x .ends); leaves = ram-call _ (x .given) (x .related) }
+  one-call (loadScreen file page) first typed its h =
+      let x = load-scr-same bus (l .ram) (l .a) (l .b) (l .border) rom c (here .machine) (here .related) (l .state) file page
+      (load-scr-ordered (l .state) (length (l .ram)) (length file) page .noneAccepts h) in
       record { next = x .given .controller; answer = ended _ (x .given) (x .ends); leaves = ram-call _ (x .given) (x .related) }
   one-call (ask q out) first typed its h = let x = reply-same q out its h in record { next = x .next; answer = x .same; leaves = x .leaves }
 

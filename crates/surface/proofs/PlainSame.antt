@@ -1,7 +1,8 @@
 -- The calls of the C surface that take no time are the Rust's. Each is lent a part of the machine; the rest is any: RAM, pictures or border.
 -- Assumes nothing.
-use Prim.Native.Nat.{ℕ, _<_}
-use mathlib.Core.Path.{_≡_, refl, sym, _∙_, subst}
+use Prim.Native.Nat.{ℕ, _+_, _*_, _<_, _≤_}
+use native.Mathlib.Omega.{arith}
+use mathlib.Core.Path.{_≡_, refl, sym, ap, _∙_, subst}
 use mathlib.Core.List.{List, [], _∷_}
 use lib.ListN.{length}
 use mathlib.Core.Bool.{true}
@@ -15,8 +16,10 @@ use Rattle.memory.specs.declared.Place.{Place}
 use Rattle.memory.specs.declared.Place.the-variants.{Rom, Ram}
 use Rattle.memory.specs.declared.Paged.{Paged}
 use Rattle.memory.specs.declared.Paged.the-variants as paging
-use Rattle.memory.specs.Paging.{write7ffd, pagedCode, pagingAfter}
-use Rattle.memory.specs.Memory.{placeOf, pokedIn, poked, peeked, loaded}
+use Rattle.memory.specs.Paging.{write7ffd, pagedCode, pagingAfter, shownPage}
+use Rattle.memory.specs.Memory.{placeOf, pokedIn, poked, peeked, ramPage, loaded}
+use Rattle.memory.proofs.Places.{shown-exists, exists-fits}
+use Rattle.memory.proofs.Stored.{front-long, loaded-front}
 use Rattle.bus.specs.World.{World, worldOf}
 use Rattle.bus.specs.Time.{inCore, inScreen, inEdge, worldAfter}
 use Rattle.bus.specs.Turns.{fresh}
@@ -25,8 +28,8 @@ use Rattle.bus.proofs.Runs.{ran-world}
 use Rattle.bus.proofs.Kept.{SoundWorld}
 use Rattle.judgement.specs.declared.Verdict.{Verdict}
 use Rattle.judgement.specs.declared.Verdict.the-variants.{Accepted}
-use Rattle.judgement.specs.Judges.{judgeState, judgeTold, judgeRead, judgeWrite, judgeLoad, judgeRamPage, judgeBlock, judgeShown}
-use Rattle.judgement.proofs.Accepted.{ready-state, ready-told, ready-read, ready-write, ready-load, ready-ram-page, ready-block, ready-shown}
+use Rattle.judgement.specs.Judges.{judgeState, judgeTold, judgeRead, judgeWrite, judgeLoad, judgeRamPage, judgeBlock, judgeShown, judgeSaveScr, judgeLoadScr}
+use Rattle.judgement.proofs.Accepted.{ready-state, ready-told, ready-read, ready-write, ready-load, ready-ram-page, ready-block, ready-shown, ready-save-scr, ready-load-scr}
 use Rattle.contracts.specs.Plain as ulb
 use Rattle.contracts.specs.Plain.{tell}
 use Rattle.rustzx.specs.Controller.{ZXController}
@@ -36,6 +39,7 @@ use Rattle.rustzx.specs.Calls as rust
 use Rattle.rustzx.specs.Calls.{Call, partOf, answerOf, after}
 use Rattle.rustzx.proofs.Demand.{kept}
 use Rattle.surface.specs.Same.{SameTold, SamePart, SameMove}
+use Rattle.surface.specs.Chain.{withFront, SameFile}
 use Rattle.surface.proofs.OnMachine.{agrees}
 
 module _ (bus : Bus) (ram a b border rom : List ℕ) (c : ZXController) (its : ourMachine (c .machine) ≡ bus .machine) (r : Related (c .machine) rom c (worldOf bus ram a b border)) where
@@ -141,6 +145,30 @@ module _ (bus : Bus) (ram a b border rom : List ℕ) (c : ZXController) (its : o
       rw e
       (same-move (rust.loadPage number bytes) (worldOf bus (loaded number bytes ram) a b border) (h .onRecord .sound) (h .exists, h .bytesIs)
       (ran-world (pageLoad number bytes (w .core)) (fresh m w) ∙ loaded-is number bytes))
+
+  -- ULB_LOAD_SCR is the same load of the page's bytes with the file in front.
+  pub load-scr-same : (state file : List ℕ) (number : ℕ) → judgeLoadScr state (length ram) (length file) number ≡ Accepted bus
+      → SameMove rom (rust.loadPage number (withFront file (ramPage number ram))) c (worldOf bus (ulb.loadScr state ram file number .slice) a b border)
+  unfolding ulb.loadScr partOf
+  load-scr-same state file number e =
+      let h = ready-load-scr state bus (length ram) (length file) number e in
+      let fits : 16384 * number + 16384 ≤ length ram = rw (h .ramIs) (exists-fits m number (h .exists)) in
+      let whole = withFront file (ramPage number ram) in
+      let few : length file ≤ 16384 = omega (arith, h .fileIs) in
+      rw e
+      (same-move (rust.loadPage number whole) (worldOf bus (loaded number file ram) a b border) (h .onRecord .sound) (h .exists, front-long number file ram fits few)
+      (ran-world (pageLoad number whole (w .core)) (fresh m w) ∙ loaded-is number whole
+      ∙ ap (λ (x : List ℕ). worldOf bus x a b border) (sym (loaded-front number file ram fits few))))
+
+  -- ULB_SAVE_SCR is the file of what ram_page_data gives for the Rust's own screen_bank.
+  pub save-scr-same : (state file : List ℕ) → judgeSaveScr state (length ram) (length file) ≡ Accepted bus → SameFile c (ulb.saveScr state ram file .slice)
+  unfolding ulb.saveScr answerOf
+  save-scr-same state file e =
+      let h = ready-save-scr state bus (length ram) (length file) e in
+      let shown = shownPage m (bus .paging) in
+      let bank : c .screenBank ≡ shown = r .bank ∙ ap (λ (n : ZXMachine). shownPage n (bus .paging)) its in
+      let page : SamePart (rust.ramPageOf shown) c (ramPage shown ram) = same-part (rust.ramPageOf shown) _ (h .onRecord .sound) (shown-exists m (bus .paging)) refl in
+      (ramPage shown ram, subst (λ (n : ℕ). SamePart (rust.ramPageOf n) c (ramPage shown ram)) (sym bank) page, rw e)
 
   reset-is : worldAfter m (passedReset (w .core)) w ≡ worldOf (withPassed 0 bus) ram a b border
   unfolding worldAfter inCore inScreen inEdge

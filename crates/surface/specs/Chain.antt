@@ -5,21 +5,23 @@ use Prim.Native.Nat.{ℕ}
 use mathlib.Core.Path.{_≡_}
 use mathlib.Core.List.{List, [], _∷_, _++_}
 use lib.Dec.{eqb}
-use lib.ListN.{length}
+use lib.ListN.{length, drop}
 use Rattle.machine.specs.Limits.{pictureLength, pageLength}
 use Rattle.ports.specs.Devices.{devicesOf}
+use Rattle.memory.specs.Memory.{ramPage}
+use Rattle.memory.specs.Screens.{screenFile}
 use Rattle.record.specs.Record.{recordOf}
 use Rattle.judgement.specs.Order.{Numbered}
 use Rattle.contracts.specs.Timed.{Lent, outcome}
 use Rattle.contracts.specs.Plain.{Told, told, stillOf}
-use Rattle.contracts.specs.Calls.{TimedCall, plain, mreq, noMreq, portIn, portOut, Helper, lineAddr, lineOf, columnOf, attrRowOf, attrColumnOf, colourBits, Question, byteRead, pagingRead, interruptAsked, framesAsked, pageAsked, blockAsked, shownAsked, stillAsked, help, Call, startAgain, takeTime, writeByte, writePaging, resetPassed, loadRam, ask, Result, result, causesOf, refusedFilled, lentOf, Made, buffersAfter, Each}
+use Rattle.contracts.specs.Calls.{TimedCall, plain, mreq, noMreq, portIn, portOut, Helper, lineAddr, lineOf, columnOf, attrRowOf, attrColumnOf, colourBits, Question, byteRead, pagingRead, interruptAsked, framesAsked, pageAsked, blockAsked, shownAsked, stillAsked, fileAsked, help, Call, startAgain, takeTime, writeByte, writePaging, resetPassed, loadRam, loadScreen, ask, Result, result, causesOf, refusedFilled, lentOf, Made, buffersAfter, Each}
 use Rattle.rustzx.specs.Panics.{OrPanic, done, onDone}
 use Rattle.rustzx.specs.Controller.{ZXController}
 use Rattle.rustzx.specs.Calls as rust
 use Rattle.rustzx.specs.Calls.{Given, performed}
 use Rattle.rustzx.specs.Addresses as address
 use Rattle.rustzx.specs.Colors.{fromBits, colorByte}
-use Rattle.surface.specs.Same.{NoValue, ItsValue, SameTimed, SameTold, SameFound, SameHelp, SameLent}
+use Rattle.surface.specs.Same.{NoValue, ItsValue, SameTimed, SameTold, SamePart, SameFound, SameHelp, SameLent}
 
 -- the Rust's call of a timed call, and what its value is
 abbrev pub rustTimed : TimedCall → rust.Call
@@ -45,6 +47,14 @@ rustHelper attrRowOf n = address.attrRowRel n
 rustHelper attrColumnOf n = address.attrColRel n
 rustHelper colourBits n = onDone (fromBits n) (λ x. done (colorByte x))
 
+-- Screen files are an addition that the Rust has not. One that is loaded is, to the Rust, its own page load of the page's bytes with the file in front,
+abbrev pub withFront : List ℕ → List ℕ → List ℕ
+withFront file page = file ++ drop (length file) page
+
+-- and one that is saved is the file of the page that its ram_page_data gives for its own screen_bank.
+abbrev pub SameFile : ZXController → List ℕ → Type 0
+SameFile c file = (page : List ℕ) × SamePart (rust.ramPageOf (c .screenBank)) c page × (file ≡ screenFile page)
+
 -- the Rust's call ends, and its controller is then `next`
 pub record LeadsTo (k : rust.Call) (c next : ZXController) : Type 0 where
   pub given : Given
@@ -63,6 +73,7 @@ SameReply rom (blockAsked lent block) c next l t = SameFound (rust.blockOf block
 SameReply rom shownAsked c next l t = SameFound rust.screenBuffer c t pictureLength (l .a ++ l .b) × LeadsTo rust.screenBuffer c next
 SameReply rom (stillAsked flash) c next l t =
     (t .answer ≡ stillOf (recordOf (l .state)) (l .ram) (eqb flash 1)) × (next ≡ c)
+SameReply rom fileAsked c next l t = SameFile c (t .answer) × (next ≡ c)
 SameReply rom (help h n) c next l t = SameHelp (rustHelper h n) t × (next ≡ c)
 
 -- what the Rust says of an accepted call on the buffers l: r has the number, the buffers afterwards and the answer. A second start is none.
@@ -74,6 +85,7 @@ SameAnswer rom (writeByte addr value) c next l r = LeadsTo (rust.writeInternal a
 SameAnswer rom (writePaging value answer) c next l r = SameTold (rust.write7ffd value) c (told (r .code) (r .filled)) × LeadsTo (rust.write7ffd value) c next
 SameAnswer rom resetPassed c next l r = LeadsTo rust.resetFrameCounter c next
 SameAnswer rom (loadRam bytes page) c next l r = LeadsTo (rust.loadPage page bytes) c next
+SameAnswer rom (loadScreen file page) c next l r = LeadsTo (rust.loadPage page (withFront file (ramPage page (l .ram)))) c next
 SameAnswer rom (ask q out) c next l r = SameReply rom q c next l (told (r .code) (r .filled))
 
 -- an accepted call: the Rust's ends and answers the same, and the buffers hold what the Rust then holds
@@ -110,6 +122,7 @@ OwnRomAsked rom (pageAsked page) = Unit {0}
 OwnRomAsked rom (blockAsked lent block) = length lent ≡ length rom → lent ≡ rom
 OwnRomAsked rom shownAsked = Unit {0}
 OwnRomAsked rom (stillAsked flash) = Unit {0}
+OwnRomAsked rom fileAsked = Unit {0}
 OwnRomAsked rom (help h n) = Unit {0}
 
 abbrev pub OwnRom : List ℕ → Call → Type 0
@@ -119,6 +132,7 @@ OwnRom rom (writeByte addr value) = Unit {0}
 OwnRom rom (writePaging value answer) = Unit {0}
 OwnRom rom resetPassed = Unit {0}
 OwnRom rom (loadRam bytes page) = Unit {0}
+OwnRom rom (loadScreen file page) = Unit {0}
 OwnRom rom (ask q out) = OwnRomAsked rom q
 
 abbrev pub OneRom : List ℕ → List Made → Type 0

@@ -38,7 +38,7 @@ pub extern "C" fn ulb_load_page(state: &[u8], ram: &mut [u8], src: &[u8], page: 
     match v {
         Verdict::Refused(e) => judgement::number(e),
         Verdict::Accepted(_) => {
-            memory::load_page(ram, page, src);
+            memory::load(ram, page, src);
             0
         }
     }

@@ -26,5 +26,8 @@ returns-6 c = search (holding, passing, none-left, needs) depth 20
 returns-7 : tie.Need-returns-7
 returns-7 c = search (holding, passing, none-left, needs) depth 20
 
+returns-8 : tie.Need-returns-8
+returns-8 c = search (holding, passing, none-left, needs) depth 20
+
 pub first-cause-spec : {M : Type 1} → statement M
-first-cause-spec = tie.close (tie.spec returns returns-2 returns-3 returns-4 returns-5 returns-6 returns-7)
+first-cause-spec = tie.close (tie.spec returns returns-2 returns-3 returns-4 returns-5 returns-6 returns-7 returns-8)

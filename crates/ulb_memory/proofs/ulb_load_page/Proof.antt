@@ -20,8 +20,8 @@ number-requires c κs = search needs
 enum-told : tie.Need-enum-told
 enum-told c = search needs
 
-load-page-requires : tie.Need-load-page-requires
-load-page-requires c κs = load-fits (ready-load _ _ _ _ _ (sym (c .before .before .before .judge-load .ensures) ∙ c .before .enum-told .given .1))
+load-requires : tie.Need-load-requires
+load-requires c κs = load-fits (ready-load _ _ _ _ _ (sym (c .before .before .before .judge-load .ensures) ∙ c .before .enum-told .given .1))
 
 returns : tie.Need-returns
 unfolding loadPage
@@ -34,7 +34,7 @@ same-length c = search needs
 returns-2 : tie.Need-returns-2
 unfolding loadPage
 returns-2 c =
-    changed-accepted _ _ (c .before .before .before .before .before .before .judge-load .ensures) _ _ _ _ (c .before .before .before .before .enum-told .given .1) (c .before .before .load-page .ensures)
+    changed-accepted _ _ (c .before .before .before .before .before .before .judge-load .ensures) _ _ _ _ (c .before .before .before .before .enum-told .given .1) (c .before .before .load .ensures)
 
 pub ulb-load-page-spec : {M : Type 1} → statement M
 ulb-load-page-spec =
@@ -44,7 +44,7 @@ ulb-load-page-spec =
     enum-known-v
     number-requires
     enum-told
-    load-page-requires
+    load-requires
     returns
     same-length
     returns-2)

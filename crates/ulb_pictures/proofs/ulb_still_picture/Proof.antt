@@ -3,7 +3,7 @@
 use mathlib.Core.Path.{sym, _∙_}
 use Rattle.judgement.proofs.Accepted.{ready-still}
 use Rattle.contracts.specs.Plain.{stillPicture}
-use Rattle.contracts.proofs.Leaves.{changed-refused, changed-accepted, still-fits, page-long}
+use Rattle.contracts.proofs.Leaves.{changed-refused, changed-accepted, shown-fits, page-long}
 use borrow.Author.Needs.{needs}
 use Rattle.ulb_pictures.proofs.ulb_still_picture.Statement.{statement}
 use Rattle.ulb_pictures.proofs.ulb_still_picture.Tie as tie
@@ -29,12 +29,12 @@ cast-ram-page-data c = search needs
 ram-page-data-requires : tie.Need-ram-page-data-requires
 ram-page-data-requires c κs =
     let r = ready-still _ _ _ _ _ (sym (c .before .before .before .before .judge-still .ensures) ∙ c .before .before .v2 .given .1) in
-    still-fits _ r (c .screen-bank .ensures)
+    shown-fits _ (r .onRecord) (r .ramIs) (c .screen-bank .ensures)
 
 still-requires : tie.Need-still-requires
 still-requires c κs =
     let r = ready-still _ _ _ _ _ (sym (c .before .before .before .before .before .before .judge-still .ensures) ∙ c .before .before .before .before .v2 .given .1) in
-    (page-long _ _ _ (c .before .ram-page-data .ensures) (still-fits _ r (c .before .before .screen-bank .ensures)), r .pictureIs)
+    (page-long _ _ _ (c .before .ram-page-data .ensures) (shown-fits _ (r .onRecord) (r .ramIs) (c .before .before .screen-bank .ensures)), r .pictureIs)
 
 returns : tie.Need-returns
 unfolding stillPicture

@@ -1,8 +1,8 @@
 -- The middle of RAM is lent to the copy and comes back as the source: `load-is`.
 use Rattle.memory.proofs.Parts.{load-is}
 use borrow.Author.Needs.{needs}
-use Rattle.memory.proofs.load_page.Statement.{statement}
-use Rattle.memory.proofs.load_page.Tie as tie
+use Rattle.memory.proofs.load.Statement.{statement}
+use Rattle.memory.proofs.load.Tie as tie
 
 mul-at : tie.Need-mul-at
 mul-at c = search needs
@@ -26,10 +26,10 @@ same-length : tie.Need-same-length
 same-length c = search needs
 
 returns : tie.Need-returns
-returns c = let s = c .before .before .before .before .before .before in load-is (s .args .page) (s .args .ram .now) (s .args .src .now) (c .before .before .copy .last .1 .0) (s .pre .0) (s .pre .1) (c .before .before .copy .ensures .1)
+returns c = let s = c .before .before .before .before .before .before in load-is (s .args .page) (s .args .ram .now) (s .args .src .now) (c .before .before .copy .last .1 .0) (s .pre) (c .before .before .copy .ensures .1)
 
-pub load-page-spec : {M : Type 1} → statement M
-load-page-spec =
+pub load-spec : {M : Type 1} → statement M
+load-spec =
     tie.close
     (tie.spec
     mul-at
