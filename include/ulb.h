@@ -31,8 +31,8 @@
  *   12,432                176  ulb_still_picture
  *      208                     ulb_read_internal
  *      192                     ulb_block
- *      176                     ulb_load_page, ulb_ram_page, ulb_shown_picture
- *      160                     ulb_write_7ffd
+ *      176                     ulb_load_page, ulb_load_scr, ulb_ram_page, ulb_shown_picture
+ *      160                     ulb_write_7ffd, ulb_save_scr
  *      144                     ulb_read_7ffd, ulb_int_active, ulb_frames_count
  *      128                     ulb_reset_frame_counter
  *      104                     ulb_start
@@ -77,7 +77,8 @@ enum {
     ULB_LONG_WAIT = 5,
     ULB_FRAMES_FULL = 6,
     ULB_BAD_PAGE = 7,
-    ULB_BAD_NUMBER = 8
+    ULB_BAD_NUMBER = 8,
+    ULB_NO_VIDEO_PAGE = 9
 };
 
 /* Codes of a port write, and 0, PAGED and LOCKED of ulb_write_7ffd. */
