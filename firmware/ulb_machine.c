@@ -137,6 +137,12 @@ uint8_t ulb_machine_load_page(ulb_machine *m, const uint8_t *bytes, size_t len, 
     return ulb_load_page(STATE, RAM, bytes, len, page);
 }
 
+uint8_t ulb_machine_save_scr(ulb_machine *m, uint8_t *file, size_t len) { return ulb_save_scr(STATE, RAM, file, len); }
+
+uint8_t ulb_machine_load_scr(ulb_machine *m, const uint8_t *file, size_t len, uint32_t page) {
+    return ulb_load_scr(STATE, RAM, file, len, page);
+}
+
 ulb_number ulb_machine_write_7ffd(ulb_machine *m, uint8_t value) {
     uint8_t answer[ULB_NUMBER_ANSWER_BYTES] = {0};
     uint8_t refusal = ulb_write_7ffd(STATE, value, answer, sizeof answer);
@@ -256,6 +262,7 @@ const char *ulb_refusal_text(uint8_t refusal) {
         "accepted", "machine above 1", "a slice has the wrong length", "the state record is not sound",
         "a device flag or the tape bit is above 1", "a wait above 65,535 clocks",
         "passed frames are full: reset the frame counter", "no such RAM page", "a number outside its range",
+        "a RAM page that is no video page",
     };
     return refusal < sizeof text / sizeof *text ? text[refusal] : "no refusal has this number";
 }

@@ -9,8 +9,8 @@
  *     if (t.closed) show(ulb_machine_shown_picture(&m).bytes, m.border);
  *
  * Nothing here allocates. A struct is one machine; two structs are two machines. One machine is for one thread at a
- * time. Between calls hand the buffers back untouched: RAM is written by ulb_machine_write and ulb_machine_load_page,
- * pictures and border are the bus's alone. */
+ * time. Between calls hand the buffers back untouched: RAM is written by ulb_machine_write, ulb_machine_load_page and
+ * ulb_machine_load_scr, pictures and border are the bus's alone. */
 #ifndef ULB_MACHINE_H
 #define ULB_MACHINE_H
 
@@ -95,6 +95,12 @@ static inline uint8_t ulb_machine_byte(const ulb_machine *m, uint16_t addr) {
 ulb_number ulb_machine_read(ulb_machine *m, uint16_t addr);
 uint8_t ulb_machine_write(ulb_machine *m, uint16_t addr, uint8_t value);
 uint8_t ulb_machine_load_page(ulb_machine *m, const uint8_t *bytes, size_t len, uint32_t page);
+
+/* Screen files (SCR), 6,912 bytes of the caller's own: ulb_save_scr, of the page that is now shown; ulb_load_scr, into
+ * a video page (48K: 0; 128K: 5 or 7), shown or not. In no time: a file read in mid-frame shows in the blocks that are
+ * still to come. */
+uint8_t ulb_machine_save_scr(ulb_machine *m, uint8_t *file, size_t len);
+uint8_t ulb_machine_load_scr(ulb_machine *m, const uint8_t *file, size_t len, uint32_t page);
 
 /* Paging, interrupt and frames, in no time. */
 ulb_number ulb_machine_write_7ffd(ulb_machine *m, uint8_t value);

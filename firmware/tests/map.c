@@ -56,6 +56,23 @@ static unsigned wrong_blocks(const uint32_t *map) {
     return wrong;
 }
 
+/* The wrapper's two calls of screen files, on m, a 128K that shows page 5. */
+static void screen_files(void) {
+    static uint8_t file[ULB_SCREEN_FILE_BYTES];
+    const uint8_t *page5 = m.ram + 5 * ULB_PAGE_BYTES, *page7 = m.ram + 7 * ULB_PAGE_BYTES;
+    CHECK("save", ulb_machine_save_scr(&m, file, sizeof file), ULB_OK);
+    CHECK("is of the shown page", memcmp(file, page5, sizeof file), 0);
+    CHECK("page 7 is another", memcmp(file, page7, sizeof file) != 0, 1);
+    CHECK("load", ulb_machine_load_scr(&m, file, sizeof file, 7), ULB_OK);
+    CHECK("is in page 7", memcmp(file, page7, sizeof file), 0);
+    CHECK("a short file is not written", ulb_machine_save_scr(&m, file, sizeof file - 1), ULB_BAD_LENGTH);
+    CHECK("nor read", ulb_machine_load_scr(&m, file, sizeof file - 1, 6), ULB_BAD_LENGTH);
+    CHECK("no page 8", ulb_machine_load_scr(&m, file, sizeof file, 8), ULB_BAD_PAGE);
+    CHECK("page 6 is no video page", ulb_machine_load_scr(&m, file, sizeof file, 6), ULB_NO_VIDEO_PAGE);
+    CHECK("which has words", strcmp(ulb_refusal_text(ULB_NO_VIDEO_PAGE), "a RAM page that is no video page"), 0);
+    CHECK("and 10 has none", strcmp(ulb_refusal_text(10), "no refusal has this number"), 0);
+}
+
 int main(void) {
     uint8_t fresh[ULB_STATE_BYTES];
     uint32_t old[4];
@@ -89,7 +106,7 @@ int main(void) {
     CHECK("the old map is wrong", wrong_blocks(old), 2);
     CHECK("the new one is right", wrong_blocks(m.map), 0);
 
-    /* a locked write and a border write leave it; so do waits, reads, bytes written, a page loaded and refused calls */
+    /* a locked write and a border write leave it; so do waits, reads, bytes written, screen files and refused calls */
     CHECK("locks", ulb_machine_write_7ffd(&m, 0x36).number, ULB_PAGED);
     memcpy(old, m.map, sizeof old);
     CHECK("locked", ulb_machine_write_io(&m, 0x7FFD, 0).value, ULB_LOCKED);
@@ -101,6 +118,7 @@ int main(void) {
         CHECK("byte write", ulb_machine_write(&m, (uint16_t)addr, 0xA5), ULB_OK);
         CHECK("is read", ulb_machine_byte(&m, (uint16_t)addr), addr < 0x4000 ? filling(9, addr) : 0xA5);
     }
+    screen_files();
     m.devices[24] = 2;
     CHECK("a bad tape bit", ulb_machine_write_io(&m, 0x7FFD, 1).refusal, ULB_BAD_FLAG);
     m.devices[24] = 1;

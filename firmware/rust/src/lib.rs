@@ -24,6 +24,8 @@ use alloc::boxed::Box;
 pub const PICTURE_BYTES: usize = 49152;
 pub const BORDER_BYTES: usize = 76800;
 pub const PAGE_BYTES: usize = 16384;
+/// An SCR file: 6,144 bitmap bytes in page order, then 768 attribute bytes.
+pub const SCREEN_FILE_BYTES: usize = 6912;
 
 #[derive(Clone, Copy, Debug, PartialEq, Eq)]
 pub enum Kind {
@@ -64,6 +66,8 @@ pub enum Refusal {
     FramesFull = 6,
     BadPage = 7,
     BadNumber = 8,
+    /// The RAM page is there, but is none that can be shown.
+    NoVideoPage = 9,
 }
 
 fn accepted(refusal: u8) -> Result<(), Refusal> {
@@ -76,7 +80,8 @@ fn accepted(refusal: u8) -> Result<(), Refusal> {
         5 => Refusal::LongWait,
         6 => Refusal::FramesFull,
         7 => Refusal::BadPage,
-        _ => Refusal::BadNumber,
+        8 => Refusal::BadNumber,
+        _ => Refusal::NoVideoPage,
     })
 }
 
@@ -364,6 +369,24 @@ impl Machine {
         let ram = self.kind.ram_bytes();
         accepted(unsafe {
             raw::ulb_load_page(self.state.as_ptr(), 23, self.memory.ram_mut(), ram, bytes.as_ptr(), bytes.len(), page)
+        })
+    }
+
+    /// The screen file of the page that is now shown (48K: 0; 128K: 5, or 7 with bit 3 of the 7FFD byte), into
+    /// [`SCREEN_FILE_BYTES`] of the caller's.
+    pub fn save_scr(&self, file: &mut [u8]) -> Result<(), Refusal> {
+        let ram = self.kind.ram_bytes();
+        accepted(unsafe {
+            raw::ulb_save_scr(self.state.as_ptr(), 23, self.memory.ram(), ram, file.as_mut_ptr(), file.len())
+        })
+    }
+
+    /// A screen file into a video page (48K: 0; 128K: 5 or 7), shown or not, and no other byte of RAM. In no time: a
+    /// file read in mid-frame shows in the blocks still to come.
+    pub fn load_scr(&mut self, file: &[u8], page: u32) -> Result<(), Refusal> {
+        let ram = self.kind.ram_bytes();
+        accepted(unsafe {
+            raw::ulb_load_scr(self.state.as_ptr(), 23, self.memory.ram_mut(), ram, file.as_ptr(), file.len(), page)
         })
     }
 

@@ -32,6 +32,8 @@ calls! {
     ulb_frames_count(state: In, state_len: usize, answer: Out, answer_len: usize);
     ulb_reset_frame_counter(state: Out, state_len: usize);
     ulb_load_page(state: In, state_len: usize, ram: Out, ram_len: usize, bytes: In, bytes_len: usize, page: u32);
+    ulb_save_scr(state: In, state_len: usize, ram: In, ram_len: usize, file: Out, file_len: usize);
+    ulb_load_scr(state: In, state_len: usize, ram: Out, ram_len: usize, file: In, file_len: usize, page: u32);
     ulb_ram_page(state: In, state_len: usize, ram: In, ram_len: usize, page: u32, answer: Out, answer_len: usize);
     ulb_block(state: In, state_len: usize, rom: In, rom_len: usize, ram: In, ram_len: usize, block: u32, answer: Out,
         answer_len: usize);

@@ -1,5 +1,5 @@
 //! A few frames through the safe layer. Linked and run on x86-64; elsewhere `cargo check --tests` reads it.
-use ulb_machine::{bitmap_line_addr, Kind, Machine, Mouse, Refusal, PAGE_BYTES, PICTURE_BYTES};
+use ulb_machine::{bitmap_line_addr, Kind, Machine, Mouse, Refusal, PAGE_BYTES, PICTURE_BYTES, SCREEN_FILE_BYTES};
 
 fn started(kind: Kind) -> Box<Machine> {
     let mut m = Machine::boxed();
@@ -17,6 +17,10 @@ fn refusals() {
     assert_eq!(m.load_page(&[0; 16384], 3), Err(Refusal::BadPage));
     assert_eq!(m.load_page(&[0; 16383], 3), Err(Refusal::BadLength));
     assert_eq!(m.block(4), Err(Refusal::BadNumber));
+    assert_eq!(m.load_scr(&[0; 6912], 3), Err(Refusal::BadPage));
+    assert_eq!(m.load_scr(&[0; 6912], 2), Err(Refusal::NoVideoPage));
+    assert_eq!(m.load_scr(&[0; 6911], 2), Err(Refusal::BadLength));
+    assert_eq!(m.save_scr(&mut [0; 6913]), Err(Refusal::BadLength));
     assert_eq!(m.frame_clock(), 0);
 }
 
@@ -158,4 +162,43 @@ fn the_map_is_renewed() {
     assert_eq!((seen(&m), m.read_7ffd()), (pages([9, 5, 2, 4]), Ok(0x14)));
     m.start(Kind::Spectrum128, &[1; 32768]).unwrap();
     assert_eq!(seen(&m), [1, 0, 0, 0]);
+}
+
+/// A file is the shown page's front; read into either video page it is that page's, and the rest of RAM stays.
+#[test]
+fn screen_files() {
+    for (kind, pages) in [(Kind::Spectrum48, &[0][..]), (Kind::Spectrum128, &[5, 7])] {
+        let mut m = filled(kind);
+        for &shown in pages {
+            m.write_7ffd(if shown == 7 { 8 } else { 0 }).unwrap();
+            for &page in pages {
+                let mut file = vec![0; SCREEN_FILE_BYTES];
+                m.save_scr(&mut file).unwrap();
+                assert_eq!(file, m.ram_page(shown).unwrap()[..SCREEN_FILE_BYTES]);
+                let mut want = ram(&m);
+                file.iter_mut().for_each(|byte| *byte = byte.wrapping_add(1));
+                m.load_scr(&file, page).unwrap();
+                want[page as usize * PAGE_BYTES..][..SCREEN_FILE_BYTES].copy_from_slice(&file);
+                assert_eq!(ram(&m), want);
+            }
+        }
+    }
+}
+
+fn ram(m: &Machine) -> Vec<u8> {
+    (0..).map_while(|page| m.ram_page(page).ok()).flatten().copied().collect()
+}
+
+/// Blocks painted before a file is read keep the old bytes; those after have the file's.
+#[test]
+fn a_file_in_mid_frame() {
+    let mut m = started(Kind::Spectrum48);
+    let before = usize::from(m.wait(36788).unwrap().blocks);
+    let mut file = [0xFF; SCREEN_FILE_BYTES];
+    file[6144..].fill(0x46);
+    m.load_scr(&file, 0).unwrap();
+    assert_eq!((before, m.frame_clock()), (3213, 36788));
+    assert!(m.wait(69888 - 36788).unwrap().closed);
+    let picture = m.shown_picture().unwrap();
+    assert!(picture.iter().enumerate().all(|(i, &pixel)| pixel == if i / 8 < before { 0 } else { 14 }));
 }
