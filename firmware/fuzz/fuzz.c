@@ -28,7 +28,7 @@ static bool chance(unsigned in_hundred) { return below(100) < in_hundred; }
 /* ---- What is going on, for a report -------------------------------------------------------------------------------- */
 
 static struct { unsigned long number; uint64_t seed; call c; uint8_t state[23]; unsigned wanted; } now;
-static unsigned long accepted[KINDS], refused[9];
+static unsigned long accepted[KINDS], refused[10], painted_from_file;
 
 static void describe(void) {
     const call_shape *shape = &shapes[now.c.kind];
@@ -93,6 +93,8 @@ static uint8_t state[23], devices[35];
 static unsigned machine;        /* whose zones are in use */
 static bool history;            /* no record but the bus's own is accepted, so demand 3's sums must hold */
 static struct { unsigned long clocks, blocks, closed; } sum;
+static bool file_read;          /* the last accepted call read a screen file */
+static bool in_mid_frame;       /* and that into the shown page, of which some blocks were painted and some were not */
 
 static void scatter(uint8_t *p, size_t n) {
     for (size_t i = 0; i + 4 <= n; i += 4) {
@@ -113,6 +115,7 @@ static void compare_memory(void) {
     struct { const char *name; slice s; const uint8_t *want; } all[] = {
         {"RAM", RAM, w.ram}, {"ROM", ROM, w.rom}, {"picture A", A, w.picture[0]}, {"picture B", B, w.picture[1]},
         {"border", BORDER, w.border}, {"still picture", PICTURE, w.still}, {"page bytes", BYTES, w.bytes},
+        {"screen file", SCR, w.file},
     };
     for (size_t i = 0; i < sizeof all / sizeof *all; i++) {
         size_t n = right_length(all[i].s, machine, 0);
@@ -130,20 +133,27 @@ static void check_sums(void) {
         differs("demand 3: blocks of the session", sum.blocks, sum.closed * 6144 + r.painted);
 }
 
+/* Random bytes, for the reading and for the calls. */
+static void refill(slice s, uint8_t *bytes) {
+    size_t n = right_length(s, machine, 0);
+    scatter(bytes, n);
+    memcpy(own(s, machine, n), bytes, n);
+}
+
 static void new_session(void) {
     machine = below(2);
     history = chance(50);
     memset(&sum, 0, sizeof sum);
     at_end[BORDER] = chance(50);
+    at_end[SCR] = chance(50);
+    file_read = in_mid_frame = false;
     call c = {START, {0}, 0, 0, 0};
     uint8_t none[10];
     c.number = machine;
-    scatter(w.rom, sizeof w.rom);
-    scatter(w.bytes, sizeof w.bytes);
-    scatter(w.still, sizeof w.still);
-    memcpy(own(ROM, machine, machines[machine].rom), w.rom, machines[machine].rom);
-    memcpy(own(BYTES, machine, 16384), w.bytes, 16384);
-    memcpy(own(PICTURE, machine, 49152), w.still, 49152);
+    refill(ROM, w.rom);
+    refill(BYTES, w.bytes);
+    refill(SCR, w.file);
+    refill(PICTURE, w.still);
     carry_out(&c, state, devices, &w, none);
     uint8_t *s = own(STATE, machine, 23), *ram = own(RAM, machine, machines[machine].ram), *edge = own(BORDER, machine, 76800);
     uint8_t *a = own(A, machine, 49152), *b = own(B, machine, 49152);
@@ -155,10 +165,7 @@ static void new_session(void) {
     if (got != 0) differs("start", got, 0);
     compare("record after a start", s, state, 23);
     compare_memory();
-    if (chance(80)) { /* bytes that show */
-        scatter(w.ram, machines[machine].ram);
-        memcpy(ram, w.ram, machines[machine].ram);
-    }
+    if (chance(80)) refill(RAM, w.ram); /* bytes that show */
 }
 
 /* ---- Random calls ---------------------------------------------------------------------------------------------------- */
@@ -236,6 +243,7 @@ static uint32_t random_number(call_kind k) {
         case WAIT_INTERNAL:
         case WAIT_MREQ:
         case WAIT_NO_MREQ: return chance(80) ? below(30) : chance(60) ? below(9000) : chance(70) ? near(65535) : roll();
+        case LOAD_SCR: return chance(50) ? (machine == 0 ? 0 : 5 + 2 * below(2)) : chance(90) ? below(9) : roll();
         case LOAD_PAGE:
         case RAM_PAGE: return chance(90) ? below(9) : roll();
         case BLOCK: return chance(90) ? below(5) : roll();
@@ -263,15 +271,20 @@ static size_t wrong_length(size_t right) {
 
 static call random_call(void) {
     call c;
-    c.kind = chance(65) ? WAIT_INTERNAL + below(5) : below(KINDS);
+    c.kind = chance(65) ? WAIT_INTERNAL + below(5) : chance(10) ? SAVE_SCR + below(2) : below(KINDS);
     if ((c.kind == LOAD_PAGE || c.kind == STILL_PICTURE) && chance(70)) c.kind = WRITE_INTERNAL;
     c.number = random_number(c.kind);
+    if (file_read && chance(70)) { /* a wait that paints from what was read */
+        c.kind = WAIT_INTERNAL + below(3);
+        c.number = below(9000);
+    }
     c.addr = c.kind == READ_IO || c.kind == WRITE_IO ? random_port() : (uint16_t)roll();
     c.value = (uint8_t)(chance(70) ? roll() & 0xDF : roll());
     for (slice s = STATE; s < SLICES; s++) {
         size_t right = right_length(s, machine, shapes[c.kind].answer);
         c.length[s] = shapes[c.kind].lent >> s & 1 ? right : 0;
     }
+    if (c.length[SCR] > 0 && chance(15)) c.length[SCR] = chance(50) ? 6911 : 6913;
     for (int wrongs = chance(25) ? 1 + (int)below(3) : 0; wrongs > 0; wrongs--) {
         slice s = below(SLICES);
         if (shapes[c.kind].lent >> s & 1) c.length[s] = wrong_length(c.length[s]);
@@ -279,7 +292,8 @@ static call random_call(void) {
     return c;
 }
 
-/* The record that this call is lent: the bus's own; outside a history any other; and now and then a spoilt one. */
+/* The record that this call is lent: the bus's own; outside a history any other, but not behind a file that was read,
+ * which is to be painted from; and now and then a spoilt one. */
 static void lend_record(uint8_t bytes[23]) {
     record r;
     memcpy(bytes, state, 23);
@@ -287,7 +301,7 @@ static void lend_record(uint8_t bytes[23]) {
         uint8_t other[23];
         craft(other, machine, true);
         if (chance(5) && !sound(other, &r)) memcpy(bytes, other, 23);
-    } else if (chance(50)) {
+    } else if (!file_read && chance(50)) {
         craft(bytes, chance(97) ? machine : 1 - machine, chance(12));
     }
 }
@@ -309,6 +323,15 @@ static void count_up(const call *c, const uint8_t *answer) {
     sum.closed += answer[2];
 }
 
+/* Counts the timed calls that painted right after a file was read into the shown page in mid-frame. */
+static void watch_files(const call *c, const uint8_t *answer) {
+    record r;
+    if (in_mid_frame && shapes[c->kind].answer == 10 && (answer[8] | answer[9]) != 0) painted_from_file++;
+    file_read = c->kind == LOAD_SCR;
+    in_mid_frame = file_read && sound(state, &r) && r.painted > 0 && r.painted < 6144 &&
+                   c->number == shown_page(&r);
+}
+
 static void one_call(void) {
     call c = random_call();
     uint8_t bytes[23], want[10] = {0}, *p[SLICES];
@@ -320,9 +343,10 @@ static void one_call(void) {
     }
     random_devices();
     for (slice s = STATE; s < SLICES; s++)
-        if (s != BORDER) at_end[s] = chance(50);
+        if (s != BORDER && s != SCR) at_end[s] = chance(50); /* the bytes of these two stay from call to call */
     memcpy(own(STATE, machine, 23), bytes, 23);
     memcpy(own(DEVICES, machine, 35), devices, 35);
+    if (c.kind == LOAD_SCR && chance(70)) refill(SCR, w.file); /* else what the last save wrote */
 
     now.c = c;
     memcpy(now.state, bytes, 23);
@@ -350,7 +374,9 @@ static void one_call(void) {
     }
     count_up(&c, answer);
     if (c.kind == START) memset(&sum, 0, sizeof sum);
-    if (c.kind == START || c.kind == LOAD_PAGE || c.kind == STILL_PICTURE) compare_memory();
+    bool copies = c.kind == LOAD_PAGE || c.kind == SAVE_SCR || c.kind == LOAD_SCR;
+    if (c.kind == START || copies || c.kind == STILL_PICTURE || file_read) compare_memory();
+    watch_files(&c, answer);
 }
 
 /* A run that never met a case would prove little: of 20,000 calls or more each must have been met. */
@@ -362,10 +388,12 @@ static int report(unsigned long calls) {
         if (accepted[k] == 0 && calls >= 20000) missing = printf("fuzz: %s was never accepted\n", shapes[k].name);
     }
     printf("accepted %lu; refused", good);
-    for (int i = 1; i < 9; i++) {
-        printf(" %d: %lu%s", i, refused[i], i < 8 ? "," : "\n");
+    for (int i = 1; i < 10; i++) {
+        printf(" %d: %lu%s", i, refused[i], i < 9 ? "," : "\n");
         if (refused[i] == 0 && calls >= 20000) missing = printf("fuzz: refusal %d was never met\n", i);
     }
+    printf("painted from a screen file that was read in mid-frame: %lu\n", painted_from_file);
+    if (painted_from_file == 0 && calls >= 20000) missing = printf("fuzz: no file was read in mid-frame and shown\n");
     printf("fuzz: %lu calls, 0 differences\n", calls);
     return missing != 0;
 }

@@ -9,7 +9,8 @@
 #include <unistd.h>
 #include "ulb.h"
 
-const char *const slice_names[SLICES] = {"state", "devices", "rom", "ram", "bytes", "picture", "a", "b", "border", "answer"};
+const char *const slice_names[SLICES] = {"state", "devices", "rom", "ram", "bytes", "file", "picture", "a", "b",
+                                         "border", "answer"};
 
 static uint8_t *map_between(int file, size_t size, int rights) {
     uint8_t *room = mmap(NULL, size + 2 * GUARD, PROT_NONE, MAP_PRIVATE | MAP_ANONYMOUS, -1, 0);
@@ -72,6 +73,8 @@ uint8_t make_call(const call *c, uint8_t *p[SLICES]) {
         case FRAMES_COUNT: return ulb_frames_count(S(STATE), S(ANSWER));
         case RESET_FRAME_COUNTER: return ulb_reset_frame_counter(S(STATE));
         case LOAD_PAGE: return ulb_load_page(S(STATE), S(RAM), S(BYTES), c->number);
+        case SAVE_SCR: return ulb_save_scr(S(STATE), S(RAM), S(SCR));
+        case LOAD_SCR: return ulb_load_scr(S(STATE), S(RAM), S(SCR), c->number);
         case RAM_PAGE: return ulb_ram_page(S(STATE), S(RAM), c->number, S(ANSWER));
         case BLOCK: return ulb_block(S(STATE), S(ROM), S(RAM), c->number, S(ANSWER));
         case SHOWN_PICTURE: return ulb_shown_picture(S(STATE), S(A), S(B), S(ANSWER));

@@ -1,4 +1,4 @@
-/* reading.c: see reading.h. The order is document 01's, and its words stand above each part. */
+/* reading.c: see reading.h. The order is document 01's, and its words, or document 02's, stand above each part. */
 #include "reading.h"
 #include <string.h>
 
@@ -21,6 +21,8 @@ const call_shape shapes[KINDS] = {
     {"ulb_frames_count", BIT(STATE) | BIT(ANSWER), BIT(ANSWER), 5},
     {"ulb_reset_frame_counter", BIT(STATE), BIT(STATE), 0},
     {"ulb_load_page", BIT(STATE) | BIT(RAM) | BIT(BYTES), BIT(RAM), 0},
+    {"ulb_save_scr", BIT(STATE) | BIT(RAM) | BIT(SCR), BIT(SCR), 0},
+    {"ulb_load_scr", BIT(STATE) | BIT(RAM) | BIT(SCR), BIT(RAM), 0},
     {"ulb_ram_page", BIT(STATE) | BIT(RAM) | BIT(ANSWER), BIT(ANSWER), 5},
     {"ulb_block", BIT(STATE) | BIT(ROM) | BIT(RAM) | BIT(ANSWER), BIT(ANSWER), 5},
     {"ulb_shown_picture", BIT(STATE) | BIT(A) | BIT(B) | BIT(ANSWER), BIT(ANSWER), 5},
@@ -137,16 +139,18 @@ size_t right_length(slice s, unsigned machine, unsigned answer) {
         case ROM: return machines[machine].rom;
         case RAM: return machines[machine].ram;
         case BYTES: return 16384;
+        case SCR: return 6912;
         case BORDER: return 76800;
         case ANSWER: return answer;
         default: return 49152;
     }
 }
 
-/* ---- "Eight refusals": "Order: 1, record length, 3, other lengths, 4, 5, 6, 7, 8." ------------------------------------ */
+/* ---- "Eight refusals": "Order: 1, record length, 3, other lengths, 4, 5, 6, 7, 8."; 9 "after 7" (02, Q-2) -------- */
 
 static bool is_wait(call_kind k) { return k == WAIT_INTERNAL || k == WAIT_MREQ || k == WAIT_NO_MREQ; }
 static bool is_port(call_kind k) { return k == READ_IO || k == WRITE_IO; }
+static bool names_page(call_kind k) { return k == LOAD_PAGE || k == LOAD_SCR || k == RAM_PAGE; }
 
 /* "Flags and tape bit are 0 or 1." */
 static bool flags_hold(const uint8_t *devices) {
@@ -168,6 +172,9 @@ static bool out_of_range(call_kind k, uint32_t number) {
     }
 }
 
+/* "a named video page (0 on 48K; 5 or 7 on 128K)" (02, Q-2) */
+static bool is_video_page(unsigned machine, uint32_t page) { return machine == 0 ? page == 0 : page == 5 || page == 7; }
+
 unsigned refusal_of(const call *c, const uint8_t *state, const uint8_t *devices) {
     const call_shape *shape = &shapes[c->kind];
     record r = {0, 0, 0, 0, 0, 0, 0, 0, 0, 0};
@@ -184,7 +191,8 @@ unsigned refusal_of(const call *c, const uint8_t *state, const uint8_t *devices)
     if (is_port(c->kind) && !flags_hold(devices)) return 4;
     if (is_wait(c->kind) && c->number > 65535) return 5;
     if ((is_wait(c->kind) || is_port(c->kind)) && r.passed == 4294967295u) return 6;
-    if ((c->kind == LOAD_PAGE || c->kind == RAM_PAGE) && c->number > (r.machine == 0 ? 2u : 7u)) return 7;
+    if (names_page(c->kind) && c->number > (r.machine == 0 ? 2u : 7u)) return 7;
+    if (c->kind == LOAD_SCR && !is_video_page(r.machine, c->number)) return 9;
     return out_of_range(c->kind, c->number) ? 8 : 0;
 }
 
@@ -215,7 +223,7 @@ static void paint_block(uint8_t *picture, const uint8_t *page, unsigned k, bool 
     }
 }
 
-static unsigned shown_page(const record *r) { return r->machine == 0 ? 0 : r->paging & 8 ? 7 : 5; }
+unsigned shown_page(const record *r) { return r->machine == 0 ? 0 : r->paging & 8 ? 7 : 5; }
 
 static void fill(bus *b, unsigned from, unsigned to) {
     for (unsigned i = from; i < to; i++) b->w->border[i] = (uint8_t)b->r.colour;
@@ -375,6 +383,12 @@ static uint8_t *byte_at(bus *b, uint16_t addr) {
     return at < b->n->rom ? b->w->rom + at : b->w->ram + (at - b->n->rom);
 }
 
+/* Where byte `i` of a page's screen file stands: "SCR files: 6,144 bitmap bytes in page order, then 768 attribute
+ * bytes" (02, Q-2). */
+static uint8_t *screen_byte(bus *b, unsigned page, unsigned i) {
+    return b->w->ram + 16384 * page + (i < 6144 ? i : 0x1800 + (i - 6144));
+}
+
 /* Calls with a number to give. */
 static uint32_t told(bus *b, const call *c) {
     uint32_t n = c->number;
@@ -429,6 +443,10 @@ void carry_out(const call *c, uint8_t state[23], const uint8_t devices[35], worl
         b.r.passed = 0;
     } else if (c->kind == LOAD_PAGE) {
         memcpy(w->ram + 16384 * c->number, w->bytes, 16384);
+    } else if (c->kind == SAVE_SCR) { /* "from the shown page into a lent slice" */
+        for (unsigned i = 0; i < 6912; i++) w->file[i] = *screen_byte(&b, shown_page(&b.r), i);
+    } else if (c->kind == LOAD_SCR) { /* "into a named video page", and the rest of RAM stays */
+        for (unsigned i = 0; i < 6912; i++) *screen_byte(&b, c->number, i) = w->file[i];
     } else if (c->kind == STILL_PICTURE) { /* request Q-1: "the page now shown, by bit 3 of the 7FFD byte" */
         for (unsigned k = 0; k < 6144; k++) paint_block(w->still, w->ram + 16384 * shown_page(&b.r), k, c->number == 1);
     }

@@ -1,4 +1,5 @@
-/* reading.h: document 01 read as plain C, by itself: it shares no line with the bus that it is compared with.
+/* reading.h: document 01, and what has landed of 02, read as plain C, by itself: it shares no line with the bus that it
+ * is compared with.
  * A call is described by its numbers and by the lengths of the slices that it is lent; `refusal_of` judges it by the table
  * of refusals, and `carry_out` does an accepted one on copies of the memory. */
 #ifndef READING_H
@@ -11,12 +12,12 @@
 /* The calls of ulb.h, in its order. */
 typedef enum {
     START, WAIT_INTERNAL, WAIT_MREQ, WAIT_NO_MREQ, READ_IO, WRITE_IO, READ_INTERNAL, WRITE_INTERNAL, WRITE_7FFD, READ_7FFD,
-    INT_ACTIVE, FRAMES_COUNT, RESET_FRAME_COUNTER, LOAD_PAGE, RAM_PAGE, BLOCK, SHOWN_PICTURE, STILL_PICTURE,
-    BITMAP_LINE_ADDR, BITMAP_LINE_REL, BITMAP_COL_REL, ATTR_ROW_REL, ATTR_COL_REL, COLOR_FROM_BITS, KINDS
+    INT_ACTIVE, FRAMES_COUNT, RESET_FRAME_COUNTER, LOAD_PAGE, SAVE_SCR, LOAD_SCR, RAM_PAGE, BLOCK, SHOWN_PICTURE,
+    STILL_PICTURE, BITMAP_LINE_ADDR, BITMAP_LINE_REL, BITMAP_COL_REL, ATTR_ROW_REL, ATTR_COL_REL, COLOR_FROM_BITS, KINDS
 } call_kind;
 
 /* The slices that a call can be lent, in ulb.h's order. */
-typedef enum { STATE, DEVICES, ROM, RAM, BYTES, PICTURE, A, B, BORDER, ANSWER, SLICES } slice;
+typedef enum { STATE, DEVICES, ROM, RAM, BYTES, SCR, PICTURE, A, B, BORDER, ANSWER, SLICES } slice;
 
 typedef struct {
     const char *name;
@@ -52,10 +53,11 @@ void encode(const record *r, uint8_t bytes[23]);
 uint32_t delay_at(const numbers *n, uint32_t clock);
 uint32_t block_position(const numbers *n, uint32_t clock);
 uint32_t border_position(const numbers *n, uint32_t clock, bool *end);
+unsigned shown_page(const record *r);
 
 /* The lent memory, in the sizes of the larger machine. */
 typedef struct {
-    uint8_t rom[32768], ram[131072], bytes[16384], still[49152], picture[2][49152], border[76800];
+    uint8_t rom[32768], ram[131072], bytes[16384], file[6912], still[49152], picture[2][49152], border[76800];
 } world;
 
 /* The length that a slice must have, for a machine. */

@@ -22,24 +22,39 @@ static const char *const gives[KINDS] = {
     [START] = "12",
     [WAIT_INTERNAL] = "2356", [WAIT_MREQ] = "2356", [WAIT_NO_MREQ] = "2356", [READ_IO] = "2346", [WRITE_IO] = "2346",
     [READ_INTERNAL] = "23", [WRITE_INTERNAL] = "23", [WRITE_7FFD] = "23", [READ_7FFD] = "23", [INT_ACTIVE] = "23",
-    [FRAMES_COUNT] = "23", [RESET_FRAME_COUNTER] = "23", [LOAD_PAGE] = "237", [RAM_PAGE] = "237", [BLOCK] = "238",
-    [SHOWN_PICTURE] = "23", [STILL_PICTURE] = "238",
+    [FRAMES_COUNT] = "23", [RESET_FRAME_COUNTER] = "23", [LOAD_PAGE] = "237", [SAVE_SCR] = "23",
+    [LOAD_SCR] = "2379", [RAM_PAGE] = "237", [BLOCK] = "238", [SHOWN_PICTURE] = "23", [STILL_PICTURE] = "238",
     [BITMAP_LINE_ADDR] = "28", [BITMAP_LINE_REL] = "28", [BITMAP_COL_REL] = "28", [ATTR_ROW_REL] = "28",
     [ATTR_COL_REL] = "28", [COLOR_FROM_BITS] = "28",
 };
 
 /* The causes in the order in which they are judged, and the number that each gives. */
-typedef enum { MACHINE, RECORD_LENGTH, UNSOUND, OTHER_LENGTH, FLAG, LONG_WAIT, FRAMES_FULL, PAGE, RANGE, CAUSES } cause;
-static const unsigned number_of[CAUSES] = {1, 2, 3, 2, 4, 5, 6, 7, 8};
+typedef enum {
+    MACHINE, RECORD_LENGTH, UNSOUND, OTHER_LENGTH, FLAG, LONG_WAIT, FRAMES_FULL, PAGE, NO_VIDEO_PAGE, RANGE, CAUSES
+} cause;
+static const unsigned number_of[CAUSES] = {1, 2, 3, 2, 4, 5, 6, 7, 9, 8};
 
-/* Numbers by their limits: the last that is accepted, and the first that is not. `machine` is 2 where both agree. */
+/* Numbers by their limits: the last that is accepted, and the first that is not; of video pages one that is, and one
+ * that is not. `machine` is 2 where both agree. */
 static const struct { call_kind from, to; cause why; unsigned machine; uint32_t accepted, refused; } limits[] = {
     {START, START, MACHINE, 0, 0, 2},
     {START, START, MACHINE, 1, 1, 2},
     {WAIT_INTERNAL, WAIT_NO_MREQ, LONG_WAIT, 2, 65535, 65536},
     {WAIT_INTERNAL, WRITE_IO, FRAMES_FULL, 2, 4294967294u, 4294967295u},
-    {LOAD_PAGE, RAM_PAGE, PAGE, 0, 2, 3},
-    {LOAD_PAGE, RAM_PAGE, PAGE, 1, 7, 8},
+    {LOAD_PAGE, LOAD_PAGE, PAGE, 0, 2, 3},
+    {LOAD_PAGE, LOAD_PAGE, PAGE, 1, 7, 8},
+    {LOAD_SCR, LOAD_SCR, PAGE, 0, 0, 3},
+    {LOAD_SCR, LOAD_SCR, PAGE, 1, 7, 8},
+    {LOAD_SCR, LOAD_SCR, NO_VIDEO_PAGE, 0, 0, 1},
+    {LOAD_SCR, LOAD_SCR, NO_VIDEO_PAGE, 0, 0, 2},
+    {LOAD_SCR, LOAD_SCR, NO_VIDEO_PAGE, 1, 5, 0},
+    {LOAD_SCR, LOAD_SCR, NO_VIDEO_PAGE, 1, 5, 1},
+    {LOAD_SCR, LOAD_SCR, NO_VIDEO_PAGE, 1, 5, 2},
+    {LOAD_SCR, LOAD_SCR, NO_VIDEO_PAGE, 1, 5, 3},
+    {LOAD_SCR, LOAD_SCR, NO_VIDEO_PAGE, 1, 5, 4},
+    {LOAD_SCR, LOAD_SCR, NO_VIDEO_PAGE, 1, 7, 6},
+    {RAM_PAGE, RAM_PAGE, PAGE, 0, 2, 3},
+    {RAM_PAGE, RAM_PAGE, PAGE, 1, 7, 8},
     {BLOCK, BLOCK, RANGE, 2, 3, 4},
     {STILL_PICTURE, STILL_PICTURE, RANGE, 2, 1, 2},
     {BITMAP_LINE_ADDR, BITMAP_LINE_ADDR, RANGE, 2, 191, 192},
@@ -81,7 +96,7 @@ static unsigned machine; /* whose lengths are right */
 static bool at_start;    /* of their zones stand the slices, or else at the end */
 static zone zones[SLICES];
 static uint8_t *before[SLICES];
-static bool tried[KINDS][9], length_tried[KINDS][SLICES][2];
+static bool tried[KINDS][10], length_tried[KINDS][SLICES][2];
 static const attempt *under_way;
 
 static bool lends(call_kind k, slice s) { return shapes[k].lent >> s & 1; }
@@ -102,6 +117,7 @@ static attempt good(call_kind k) {
     for (slice s = STATE; s < SLICES; s++)
         if (lends(k, s)) t.c.length[s] = right(k, s);
     if (k == START) t.c.number = machine;
+    if (k == LOAD_SCR && machine == 1) t.c.number = 7;
     if (k == ATTR_ROW_REL || k == ATTR_COL_REL) t.c.number = 0x1900;
     return t;
 }
@@ -207,7 +223,7 @@ static void try_limits(call_kind k) {
         s.value = limits[i].refused;
         try_spoilt(k, s, number_of[s.why]);
         s.value = 4294967295u;
-        try_spoilt(k, s, number_of[s.why]);
+        if (s.why != NO_VIDEO_PAGE) try_spoilt(k, s, number_of[s.why]); /* such a page is PAGE's to refuse */
     }
     /* "a timed call with passed frames at 4,294,967,295", and no other */
     if (lends(k, STATE) && !timed(k)) try_spoilt(k, (spoiler){FRAMES_FULL, 0, 4294967295u}, 0);
@@ -240,14 +256,17 @@ static void try_records(call_kind k) {
 
 /* ---- Several causes at once: the earlier one's number ------------------------------------------------------------------ */
 
-/* One of each cause that a call has, of wrong lengths one for each slice; how many. In the order of judging. */
-static unsigned all_causes(call_kind k, spoiler out[SLICES + CAUSES]) {
+enum { MOST_CAUSES = 2 * SLICES + sizeof limits / sizeof *limits + CAUSES };
+
+/* Each cause that a call has, with each slice a byte short and a byte long; how many. In the order of judging. */
+static unsigned all_causes(call_kind k, spoiler out[MOST_CAUSES]) {
     unsigned n = 0;
     for (cause w = MACHINE; w < CAUSES; w++) {
         if (w == UNSOUND && lends(k, STATE) && k != START) out[n++] = (spoiler){w, 0, clock_of[machine][FRAME]};
         if (w == FLAG && lends(k, DEVICES)) out[n++] = (spoiler){w, 24, 2};
         for (slice s = STATE; s < SLICES; s++)
-            if (lends(k, s) && w == length_cause(s)) out[n++] = (spoiler){w, s, (uint32_t)right(k, s) - 1};
+            for (int by = -1; by < 2; by += 2)
+                if (lends(k, s) && w == length_cause(s)) out[n++] = (spoiler){w, s, (uint32_t)((int)right(k, s) + by)};
         for (size_t i = 0; i < sizeof limits / sizeof *limits; i++)
             if (limits[i].why == w && k >= limits[i].from && k <= limits[i].to && limits[i].machine != 1 - machine)
                 out[n++] = (spoiler){w, 0, limits[i].refused};
@@ -256,12 +275,14 @@ static unsigned all_causes(call_kind k, spoiler out[SLICES + CAUSES]) {
 }
 
 static void try_order(call_kind k) {
-    spoiler s[SLICES + CAUSES];
+    spoiler s[MOST_CAUSES];
     unsigned n = all_causes(k, s);
     for (unsigned i = 0; i < n; i++) {
         attempt all = good(k);
-        for (unsigned j = i; j < n; j++) spoil(&all, s[j]);
-        try_it(&all, number_of[s[i].why]); /* this cause and every later one */
+        /* this cause and every later one; itself last, since of two pages one stays, and one that is not there has both
+         * causes, 7 and 9 */
+        for (unsigned j = n; j-- > i;) spoil(&all, s[j]);
+        try_it(&all, number_of[s[i].why]);
         for (unsigned j = i + 1; j < n; j++) {
             attempt two = good(k);
             spoil(&two, s[j]);
@@ -276,7 +297,7 @@ static void try_order(call_kind k) {
 /* Each refusal that a call has was tried, and none that it has not; each slice's length on each machine. */
 static void check_coverage(call_kind k) {
     const char *numbers = wrong == WRONG_COVERAGE && k == FRAMES_COUNT ? "236" : gives[k];
-    for (int i = 1; i < 9; i++)
+    for (int i = 1; i < 10; i++)
         if (tried[k][i] != (strchr(numbers, '0' + i) != NULL)) {
             failures++;
             printf("%s: refusal %d was %s\n", shapes[k].name, i, tried[k][i] ? "expected, and it has none" : "never tried");
