@@ -266,29 +266,41 @@ static void bytes_and_paging(void) {
     CHECK("changes nothing", memcmp(held, n.state, 23), 0);
 }
 
-static void fill_page(machine *m, unsigned page, uint8_t bitmap, uint8_t attribute) {
-    static uint8_t bytes[ULB_PAGE_BYTES];
+/* A screen of one bitmap byte and one attribute. */
+static void plain_screen(uint8_t *bytes, uint8_t bitmap, uint8_t attribute) {
     memset(bytes, bitmap, 0x1800);
     memset(bytes + 0x1800, attribute, 0x300);
+}
+
+static void fill_page(machine *m, unsigned page, uint8_t bitmap, uint8_t attribute) {
+    static uint8_t bytes[ULB_PAGE_BYTES];
+    plain_screen(bytes, bitmap, attribute);
     CHECK("page load", ulb_load_page(OWN(m), m->ram, m->ram_len, bytes, ULB_PAGE_BYTES, page), 0);
+}
+
+/* Two 7FFD writes on a 128K, and the page that is shown after them. */
+typedef struct { uint8_t first, second; unsigned page; } paged;
+static const paged pagings[] = {
+    {0x00, 0x00, 5}, {0x00, 0x08, 7}, {0x08, 0x00, 5}, {0x08, 0x1F, 7}, {0x08, 0xF7, 5}, /* the second write is taken */
+    {0x28, 0x00, 7}, {0x20, 0x08, 5}, {0x2F, 0x27, 7}, {0xF7, 0xFF, 5},                 /* the first one has locked */
+};
+
+static void page_in(machine *m, paged row) {
+    ulb_write_7ffd(OWN(m), row.first, FIVE(m));
+    ulb_write_7ffd(OWN(m), row.second, FIVE(m));
 }
 
 /* Request Q-1: the still picture is of the page that is now shown, bit 3 off and on, locked or not; with the record's own flash it
  * is what a frame paints in which nothing is written. The floating bus stays with 4000h. */
 static void stills(void) {
-    static const struct { uint8_t first, second; unsigned page; } rows[] = {
-        {0x00, 0x00, 5}, {0x00, 0x08, 7}, {0x08, 0x00, 5}, {0x08, 0x1F, 7}, {0x08, 0xF7, 5}, /* the second write is taken */
-        {0x28, 0x00, 7}, {0x20, 0x08, 5}, {0x2F, 0x27, 7}, {0xF7, 0xFF, 5},                 /* the first one has locked */
-    };
-    for (size_t i = 0; i < sizeof rows / sizeof *rows; i++) {
+    for (size_t i = 0; i < sizeof pagings / sizeof *pagings; i++) {
         machine m = make(ULB_128K);
         start(&m, ULB_128K);
         for (unsigned page = 0; page < 8; page++) fill_page(&m, page, 0xFF, 0x36); /* yellow on yellow: neither page's colours */
         fill_page(&m, 5, 0x00, 0x91); /* all paper: red, flashing to blue */
         fill_page(&m, 7, 0xFF, 0xDC); /* all ink: bright green, flashing to bright magenta */
-        ulb_write_7ffd(OWN(&m), rows[i].first, FIVE(&m));
-        ulb_write_7ffd(OWN(&m), rows[i].second, FIVE(&m));
-        uint8_t *still[2], held[23], colour[2] = {rows[i].page == 5 ? 2 : 12, rows[i].page == 5 ? 1 : 11};
+        page_in(&m, pagings[i]);
+        uint8_t *still[2], held[23], colour[2] = {pagings[i].page == 5 ? 2 : 12, pagings[i].page == 5 ? 1 : 11};
         memcpy(held, m.state, 23);
         for (unsigned flash = 0; flash < 2; flash++) {
             still[flash] = room(ULB_PICTURE_BYTES, 0xAA);
@@ -307,6 +319,114 @@ static void stills(void) {
         wait_plain(&m, 60000);
         CHECK("the second, flash on, the other", memcmp(m.a, still[1], ULB_PICTURE_BYTES), 0);
     }
+}
+
+static unsigned save_scr(machine *m, uint8_t *file) {
+    return ulb_save_scr(OWN(m), m->ram, m->ram_len, file, ULB_SCREEN_FILE_BYTES);
+}
+static unsigned load_scr(machine *m, const uint8_t *file, uint32_t page) {
+    return ulb_load_scr(OWN(m), m->ram, m->ram_len, file, ULB_SCREEN_FILE_BYTES, page);
+}
+
+/* The picture of a screen file, from the file alone. */
+static void picture_of(const uint8_t *file, unsigned flash, uint8_t *picture) {
+    for (unsigned y = 0; y < 192; y++)
+        for (unsigned x = 0; x < 256; x++) {
+            unsigned bits = file[2048 * (y / 64) + 256 * (y % 8) + 32 * (y / 8 % 8) + x / 8];
+            unsigned attribute = file[6144 + 32 * (y / 8) + x / 8];
+            unsigned ink = (bits >> (7 - x % 8) & 1) ^ (attribute >> 7 & flash);
+            picture[256 * y + x] = (uint8_t)(attribute / 64 % 2 * 8 + (ink ? attribute % 8 : attribute / 8 % 8));
+        }
+}
+
+/* Request Q-2: a file is the first 6,912 bytes of the page that is shown; read into a video page, shown or not, it is
+ * those bytes again, and no other byte of RAM changes. */
+static void screen_files(unsigned kind, paged row) {
+    static const unsigned video[2][2] = {{0, 0}, {5, 7}};
+    static const unsigned places[] = {0, 1, 31, 32, 255, 256, 0x7FF, 0x800, 0x17FF, 0x1800, 0x1801, 0x1AFE, 0x1AFF};
+    machine m = make(kind);
+    start(&m, kind);
+    page_in(&m, row);
+    uint8_t *file = room(ULB_SCREEN_FILE_BYTES, 0xAA), *ram = room(m.ram_len, 0), record[23];
+    uint8_t *still = room(ULB_PICTURE_BYTES, 0xAA), *picture = room(ULB_PICTURE_BYTES, 0);
+    memcpy(record, m.state, 23);
+    for (size_t i = 0; i < m.ram_len; i++) ram[i] = (uint8_t)(31 * (i / ULB_PAGE_BYTES) + 7 * i + (i >> 8));
+    memcpy(m.ram, ram, m.ram_len);
+
+    CHECK("save", save_scr(&m, file), 0);
+    CHECK("has the shown page's first bytes", memcmp(file, ram + row.page * ULB_PAGE_BYTES, ULB_SCREEN_FILE_BYTES), 0);
+    CHECK("read back", load_scr(&m, file, row.page), 0);
+    CHECK("changes no byte of RAM", memcmp(m.ram, ram, m.ram_len), 0);
+    for (int v = 0; v < 2; v++) {
+        uint32_t page = video[kind][v];
+        uint8_t *want = ram + page * ULB_PAGE_BYTES;
+        for (unsigned i = 0; i < ULB_SCREEN_FILE_BYTES; i++) file[i] = want[i] = (uint8_t)~want[i];
+        CHECK("load", load_scr(&m, file, page), 0);
+        CHECK("changes those bytes and no others", memcmp(m.ram, ram, m.ram_len), 0);
+        for (size_t i = 0; i < sizeof places / sizeof *places; i++) {
+            file[places[i]] ^= 0x10;
+            want[places[i]] ^= 0x10;
+            CHECK("load with one byte other", load_scr(&m, file, page), 0);
+            CHECK("leaves that byte other, in its place", memcmp(m.ram, ram, m.ram_len), 0);
+        }
+        for (unsigned flash = 0; flash < 2 && page == row.page; flash++) {
+            picture_of(file, flash, picture);
+            CHECK("still", ulb_still_picture(OWN(&m), m.ram, m.ram_len, still, ULB_PICTURE_BYTES, flash), 0);
+            CHECK("is the picture of the file", memcmp(still, picture, ULB_PICTURE_BYTES), 0);
+        }
+    }
+    CHECK("save", save_scr(&m, file), 0);
+    CHECK("what was read is saved", memcmp(file, ram + row.page * ULB_PAGE_BYTES, ULB_SCREEN_FILE_BYTES), 0);
+    CHECK("and the record stays", memcmp(record, m.state, 23), 0);
+}
+
+static void all_screen_files(void) {
+    screen_files(ULB_48K, (paged){0, 0, 0});
+    for (size_t i = 0; i < sizeof pagings / sizeof *pagings; i++) screen_files(ULB_128K, pagings[i]);
+}
+
+/* A file read in mid-frame, when so many blocks are painted: these have the old bytes' colour, and the rest of the
+ * frame has the file's, if its page is shown. One read into the other page shows when that does. */
+static void read_in_mid_frame(unsigned kind, uint8_t paging, uint32_t page, uint32_t clock, unsigned blocks) {
+    enum { OLD = 1, NEW = 14 }; /* the file's bitmap with the old attribute would be 7, the other way round 8 */
+    static const uint32_t frame[2] = {69888, 70908};
+    bool shown = kind == ULB_48K || page == (paging == 8 ? 7 : 5);
+    machine m = make(kind);
+    start(&m, kind);
+    ulb_write_7ffd(OWN(&m), paging, FIVE(&m));
+    for (unsigned p = 0; p < m.ram_len / ULB_PAGE_BYTES; p++) fill_page(&m, p, 0x00, 0x0F);
+    uint8_t *file = room(ULB_SCREEN_FILE_BYTES, 0), record[23];
+    plain_screen(file, 0xFF, 0x46);
+
+    CHECK("wait into the frame", wait_plain(&m, clock), 0);
+    CHECK("blocks painted before", painted(&m), blocks);
+    memcpy(record, m.state, 23);
+    CHECK("load", load_scr(&m, file, page), 0);
+    CHECK("takes no time and paints nothing", memcmp(record, m.state, 23), 0);
+    CHECK("wait to its end", wait_plain(&m, frame[kind] - clock), 0);
+    CHECK("is closed", m.answer[2], 1);
+    CHECK("blocks painted after", painted(&m), 6144 - blocks);
+    unsigned wrong = 0;
+    for (unsigned i = 0; i < ULB_PICTURE_BYTES; i++) wrong += m.b[i] != (i / 8 >= blocks && shown ? NEW : OLD);
+    CHECK("pixels of another colour than their block's", wrong, 0);
+    if (!shown) ulb_write_7ffd(OWN(&m), paging ^ 8, FIVE(&m));
+    wait_plain(&m, 60000);
+    CHECK("the next frame is all the file's", all_are(m.a, ULB_PICTURE_BYTES, NEW), 1);
+}
+
+static void mid_frames(void) {
+    /* before, at and between the first and the last block, on 48K and 128K, and the blocks painted by then */
+    static const struct { uint32_t clock[2]; unsigned blocks; } moments[] = {
+        {{14337, 14363}, 0}, {{14338, 14364}, 1}, {{36788, 37214}, 3213}, {{57245, 58035}, 6143},
+        {{57246, 58036}, 6144},
+    };
+    static const struct { unsigned kind; uint8_t paging; uint32_t page; } pages[] = {
+        {ULB_48K, 0, 0}, {ULB_128K, 0, 5}, {ULB_128K, 0, 7}, {ULB_128K, 8, 7}, {ULB_128K, 8, 5},
+    };
+    for (size_t i = 0; i < sizeof moments / sizeof *moments; i++)
+        for (size_t p = 0; p < sizeof pages / sizeof *pages; p++)
+            read_in_mid_frame(pages[p].kind, pages[p].paging, pages[p].page, moments[i].clock[pages[p].kind],
+                              moments[i].blocks);
 }
 
 static void helpers(void) {
@@ -357,6 +477,8 @@ int main(void) {
     pages_and_parts();
     bytes_and_paging();
     stills();
+    all_screen_files();
+    mid_frames();
     helpers();
     left_over();
     printf("calls: %u checks, %u failed\n", checks, failures);
