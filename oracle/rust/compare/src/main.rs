@@ -263,6 +263,12 @@ fn history(seed: u64, calls: usize) -> Tally {
             let went = pair.step(record(JUMP, 0, 0, r.next() as u32));
             or_stop(&pair, went);
         }
+        // a screen file read in mid-frame, into any page, and one saved; the stored script has none
+        if r.chance(48) {
+            let page = if r.chance(4) { r.next() % 10 } else { [0, 5, 7][(machine as u64 * (1 + r.next() % 2)) as usize] };
+            let went = pair.step(record(b'X', page as u8, 0, r.next() as u32 >> 1)).and_then(|_| pair.play(record(b'Y', 0, 0, 0)));
+            or_stop(&pair, went);
+        }
         let went = pair.step(random::call(&mut r, machine, pair.rust.clock(), lengths % 3, locks));
         or_stop(&pair, went);
     }

@@ -102,8 +102,7 @@ impl RustSide {
     /// itself picks the page, paints in its first frame (flash off) or in its second (flash on).
     fn still(&self, flash: u32) -> u32 {
         let mut fresh = Watched::new(self.machine);
-        let pages: &[u8] = if self.machine == 0 { &[0] } else { &[5, 7] };
-        for &page in pages {
+        for &page in self.video_pages() {
             fresh.door.load_page(page, self.m.door.ram_page(page));
         }
         fresh.door.write_7ffd(self.m.door.read_7ffd());
@@ -113,6 +112,35 @@ impl RustSide {
             fresh.door.wait_internal(65_535 - 20_000);
         }
         digest(fresh.plane(1 - flash as usize).pixels.iter().map(|p| p.get()))
+    }
+
+    fn video_pages(&self) -> &'static [u8] {
+        if self.machine == 0 {
+            &[0]
+        } else {
+            &[5, 7]
+        }
+    }
+
+    /// Screen files are our addition: to the original a load is its own load of the page's bytes with the file in front,
+    /// where it has the page. That a page it never shows is refused with 9 is our rule.
+    fn load_screen(&mut self, page: u8, seed: u32) -> Answer {
+        match or_refused(7, || self.ram_page(page)) {
+            Answer::Number(_) if self.video_pages().contains(&page) => {
+                let mut bytes = self.m.door.ram_page(page).to_vec();
+                bytes[..SCREEN_FILE].copy_from_slice(&filling(seed, SCREEN_FILE));
+                self.m.door.load_page(page, &bytes);
+                Answer::Done
+            }
+            Answer::Number(_) => Answer::Refused(9),
+            refused => refused,
+        }
+    }
+
+    /// And what is saved is the front of the page that it shows: its own field `screen_bank` cannot be read from here.
+    fn save_screen(&self) -> u32 {
+        let shown = self.video_pages()[if self.machine == 0 { 0 } else { (self.m.door.read_7ffd() >> 3 & 1) as usize }];
+        digest(self.m.door.ram_page(shown).iter().copied().take(SCREEN_FILE))
     }
 
     fn digests(&self) -> Answer {
@@ -166,6 +194,8 @@ impl Side for RustSide {
                 Answer::Number(_) => Answer::Done,
                 refused => refused,
             },
+            b'X' => self.load_screen(r.x, r.z),
+            b'Y' => Answer::Number(self.save_screen()),
             b'R' => self.load_rom(r.z),
             b'Q' => or_refused(7, || self.ram_page(r.x)),
             b'B' => or_refused(8, || self.block(r.x as usize)),

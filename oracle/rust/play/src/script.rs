@@ -85,4 +85,5 @@ pub fn devices(ay: u8) -> [u8; 35] {
 
 pub const RAM_BYTES: [usize; 2] = [49_152, 131_072];
 pub const ROM_BYTES: [usize; 2] = [16_384, 32_768];
+pub const SCREEN_FILE: usize = 6_912;
 pub const FRAME: [usize; 2] = [69_888, 70_908];
