@@ -125,8 +125,8 @@ impl Ours {
             b'F' => told(|t| c::frames_count(&self.state, t)),
             b'Z' => done(c::reset_frame_counter(&mut self.state)),
             b'L' => done(c::load_page(&self.state, &mut self.ram, &filling(r.z, 16_384), r.x as u32)),
-            b'X' => done(c::load_scr(&self.state, &mut self.ram, &filling(r.z, SCREEN_FILE), r.x as u32)),
-            b'Y' => {
+            b'l' => done(c::load_scr(&self.state, &mut self.ram, &filling(r.z, SCREEN_FILE), r.x as u32)),
+            b's' => {
                 let mut file = vec![0x55; SCREEN_FILE];
                 assert_eq!(0, c::save_scr(&self.state, &self.ram, &mut file));
                 Answer::Number(digest(file.into_iter()))

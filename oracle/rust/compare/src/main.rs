@@ -110,6 +110,12 @@ impl Pair {
         (0..2).try_for_each(|flash| self.play(record(b'K', 0, 0, flash)))
     }
 
+    /// A screen file that is read, wherever the beam stands, and one that is saved.
+    fn screen_file(&mut self, page: u8, seed: u32) -> Result<(), String> {
+        self.step(record(b'l', page, 0, seed))?;
+        self.play(record(b's', 0, 0, 0))
+    }
+
     fn step(&mut self, r: Record) -> Result<(), String> {
         self.play(r)?;
         self.look()
@@ -252,6 +258,15 @@ fn every_number() -> Tally {
     total
 }
 
+/// For a screen file: mostly a video page, now and then any, or one that there is not.
+fn random_page(r: &mut Rng, machine: u8) -> u8 {
+    match (r.chance(4), machine) {
+        (true, _) => r.next() as u8 % 10,
+        (false, 0) => 0,
+        (false, _) => 5 + 2 * (r.next() as u8 % 2),
+    }
+}
+
 /// A random history. Every fourth goes to sound states that no history from a start reaches.
 fn history(seed: u64, calls: usize) -> Tally {
     let mut r = Rng(seed.wrapping_mul(0x0123_4567_89AB_CDEF) ^ 0x2468);
@@ -263,10 +278,9 @@ fn history(seed: u64, calls: usize) -> Tally {
             let went = pair.step(record(JUMP, 0, 0, r.next() as u32));
             or_stop(&pair, went);
         }
-        // a screen file read in mid-frame, into any page, and one saved; the stored script has none
+        // the stored script has no screen files, so they come here
         if r.chance(48) {
-            let page = if r.chance(4) { r.next() % 10 } else { [0, 5, 7][(machine as u64 * (1 + r.next() % 2)) as usize] };
-            let went = pair.step(record(b'X', page as u8, 0, r.next() as u32 >> 1)).and_then(|_| pair.play(record(b'Y', 0, 0, 0)));
+            let went = pair.screen_file(random_page(&mut r, machine), r.next() as u32 >> 1);
             or_stop(&pair, went);
         }
         let went = pair.step(random::call(&mut r, machine, pair.rust.clock(), lengths % 3, locks));
