@@ -12,6 +12,7 @@
 
 /* The machine, a second one to try port timings on, and the finished frame: static, since they are large. */
 static ulb_machine m, scratch;
+enum { FRAME_WIDTH = 320, FRAME_HEIGHT = 240 };
 static uint8_t shown[FRAME_HEIGHT][FRAME_WIDTH];
 
 /* What the answers add up to since the start; demand 3 says what these sums must be. */
@@ -268,7 +269,8 @@ int main(int argc, char **argv) {
     for (int frame = 0; frame < 4; frame++) run_frame();
     run_over_the_end();
 
-    if (png_write(path, shown) != 0) {
+    FILE *f = fopen(path, "wb");
+    if (f == NULL || png_write(f, shown[0], FRAME_WIDTH, FRAME_HEIGHT) != 0 || fclose(f) != 0) {
         perror(path);
         return 1;
     }
