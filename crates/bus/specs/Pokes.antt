@@ -18,7 +18,7 @@ poking (Ram at) value = silent (store at (value ∷ [])) ∷ []
 abbrev pub byteWrite : ZXMachine → ℕ → ℕ → Part
 byteWrite m addr value c = poking (placeOf m (c .paging) addr) value
 
--- "page load (16,384 lent bytes into a RAM page)": a store from the page's first byte on
+-- "page load (16,384 lent bytes into a RAM page)", and a screen file read into one (02, Q-2): one store, from the page's first byte on
 abbrev pub pageLoad : ℕ → List ℕ → Part
 pageLoad page bytes c = silent (store (pageLength * page) bytes) ∷ []
 
