@@ -1,5 +1,5 @@
-/* png_reader.c: what firmware/png_read.c says of PNG files, for firmware/tests/scr. It needs no archive, so it is built for
- * the machine that it runs on, with the sanitizers.
+/* png_reader.c: what firmware/png_read.c says of PNG files, for firmware/tests/scr. It needs no archive, so it is built
+ * for the machine that it runs on, with the sanitizers.
  *   png_reader FILE..                       a line a file: `read`, width and height in pixels, and the sum of its
  *                                           samples; or what is wrong
  *   png_reader --spoil ROUNDS SEED FILE..   each file cut at every length, which has to be refused, and then ROUNDS
@@ -65,8 +65,8 @@ static uint32_t pixel_sum(void) {
 
 static void tell(const char *path) {
     keep(0, path);
-    if (reads(kept[0], kept_len[0])) printf("read %u x %u %08lX\n", PNG_READ_WIDTH, PNG_READ_HEIGHT, (unsigned long)pixel_sum());
-    else printf("%s\n", why);
+    if (!reads(kept[0], kept_len[0])) printf("%s\n", why);
+    else printf("read %u x %u %08lX\n", PNG_READ_WIDTH, PNG_READ_HEIGHT, (unsigned long)pixel_sum());
 }
 
 /* ---- Spoilt files ------------------------------------------------------------------------------------------------ */
