@@ -8,7 +8,7 @@ use Rattle.record.specs.declared.Held.{Held}
 use Rattle.record.specs.declared.Held.the-variants as held
 use Rattle.record.specs.Record.{heldBy}
 use Rattle.judgement.specs.declared.Refusal.{Refusal}
-use Rattle.judgement.specs.declared.Refusal.the-variants.{BadMachine, BadLength, Unsound, BadFlag, LongWait, FramesFull, BadPage, NoVideoPage, BadNumber}
+use Rattle.judgement.specs.declared.Refusal.the-variants.{BadMachine, BadLength, Unsound, BadFlag, LongWait, FramesFull, BadPage, BadNumber, NoVideoPage}
 use Rattle.judgement.specs.declared.Causes.{Causes}
 use Rattle.judgement.specs.declared.Verdict.{Verdict}
 use Rattle.judgement.specs.declared.Verdict.the-variants.{Refused, Accepted}
@@ -22,8 +22,8 @@ refusalNumber BadFlag = 4
 refusalNumber LongWait = 5
 refusalNumber FramesFull = 6
 refusalNumber BadPage = 7
-refusalNumber NoVideoPage = 9
 refusalNumber BadNumber = 8
+refusalNumber NoVideoPage = 9
 
 -- a condition, and the refusal that is given where it holds
 pub record Cause : Type 0 where

@@ -16,6 +16,7 @@ pub const TIMED_LENGTH: usize = 10;
 
 pub const NUMBER_LENGTH: usize = 5;
 
+// In the order of their numbers, so that a refusal's number is its place; the order of judging is that of `Causes`.
 pub enum Refusal {
     BadMachine,
     BadLength,
@@ -24,8 +25,8 @@ pub enum Refusal {
     LongWait,
     FramesFull,
     BadPage,
-    NoVideoPage,
     BadNumber,
+    NoVideoPage,
 }
 
 // What is said of a call: refused, or accepted with the sound record that it was lent.
@@ -46,8 +47,8 @@ pub fn number(e: Refusal) -> u8
         Refusal::LongWait => 5,
         Refusal::FramesFull => 6,
         Refusal::BadPage => 7,
-        Refusal::NoVideoPage => 9,
         Refusal::BadNumber => 8,
+        Refusal::NoVideoPage => 9,
     }
 }
 

@@ -10,11 +10,11 @@ use native.Mathlib.Omega.{arith}
 use lib.Dec.{eqb, lit≤}
 use lib.ListN.{length, getD, take, drop, take-append-drop, length-drop, drop-of-length-le}
 use lib.Seq.{length-take-le, take-take, take-add, take-at, take-length, getD-take}
-use borrow.Author.Tests.{eqb-true, le-leb}
+use borrow.Author.Tests.{eqb-true}
 use Rattle.laws.proofs.Cases.{by-bool}
 use Rattle.machine.specs.declared.ZXMachine.{ZXMachine}
 use Rattle.machine.specs.declared.ZXMachine.the-variants.{Sinclair48K, Sinclair128K}
-use Rattle.memory.specs.Paging.{bitSet, shownPage, pageExists}
+use Rattle.memory.specs.Paging.{bitSet, shownPage}
 use Rattle.memory.specs.Memory.{ramPage, loaded}
 use Rattle.memory.specs.Screens.{screenLength, screenFile, videoPage}
 use Rattle.memory.proofs.Stored.{loaded-cut, loaded-page}
@@ -62,15 +62,16 @@ pub file-bytes : (p : ℕ) (ram file : List ℕ) → screenFile (ramPage p ram) 
 file-bytes p ram file e i h =
     sym (getD-take screenLength (ramPage p ram) i 0 h) ∙ ap (λ (l : List ℕ). getD l i 0) (sym (file-is-front (ramPage p ram)) ∙ e)
 
--- the shown page is a video page, whatever the 7FFD byte; and each video page is there
+-- THE VIDEO PAGES are those that are shown: the shown page is one, whatever the 7FFD byte,
 pub shown-is-video : (m : ZXMachine) (paging : ℕ) → videoPage m (shownPage m paging) ≡ true
 shown-is-video Sinclair48K paging = refl
 shown-is-video Sinclair128K paging = by-bool (λ (page : ℕ). videoPage Sinclair128K page ≡ true) (bitSet 3 paging) (λ e. refl) (λ e. refl)
 
-pub video-exists : (m : ZXMachine) (page : ℕ) → videoPage m page ≡ true → pageExists m page ≡ true
-video-exists Sinclair48K page e = le-leb page 2 (omega (arith, eqb-true page 0 e))
-video-exists Sinclair128K page e = by (eqb page 5) (eqb page 7) refl refl e where
-  by : (five seven : Bool) → eqb page 5 ≡ five → eqb page 7 ≡ seven → (five || seven) ≡ true → pageExists Sinclair128K page ≡ true
-  by true seven f g h = le-leb page 7 (omega (arith, eqb-true page 5 f))
-  by false true f g h = le-leb page 7 (omega (arith, eqb-true page 7 g))
+-- and a video page is one that some 7FFD byte shows: refusal 9 is given for pages that are never shown, and for no other
+pub video-is-shown : (m : ZXMachine) (page : ℕ) → videoPage m page ≡ true → (paging : ℕ) × (paging < 256) × (shownPage m paging ≡ page)
+video-is-shown Sinclair48K page e = (0, omega arith, sym (eqb-true page 0 e))
+video-is-shown Sinclair128K page e = by (eqb page 5) (eqb page 7) refl refl e where
+  by : (five seven : Bool) → eqb page 5 ≡ five → eqb page 7 ≡ seven → (five || seven) ≡ true → (paging : ℕ) × (paging < 256) × (shownPage Sinclair128K paging ≡ page)
+  by true seven f g h = (0, omega arith, sym (eqb-true page 5 f))
+  by false true f g h = (8, omega arith, sym (eqb-true page 7 g))
   by false false f g h = absurd (false≢true h)
