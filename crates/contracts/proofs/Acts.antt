@@ -2,11 +2,10 @@
 -- sound again and has its lengths.
 -- Assumes nothing.
 use Prim.Native.Nat.{ℕ, _+_, _≤_, _<_}
-use mathlib.Core.Bool.{Bool, true, false, cond}
+use mathlib.Core.Bool.{false}
 use mathlib.Core.List.{List, [], _∷_}
 use mathlib.Core.Path.{_≡_, refl, sym, _∙_, ap, subst}
 use native.Mathlib.Omega.{arith}
-use lib.Dec.{ltb}
 use lib.ListN.{length}
 use borrow.Author.Tests.{eqb-false, ltb-false}
 use Rattle.laws.proofs.Cases.{by-bool}
@@ -15,7 +14,7 @@ use Rattle.machine.specs.declared.ZXMachine.the-variants.{Sinclair48K, Sinclair
 use Rattle.machine.specs.Limits.{longestWait}
 use Rattle.machine.specs.Timing.{interrupt}
 use Rattle.record.specs.declared.Bus.{Bus}
-use Rattle.record.specs.Record.{recordBytes, recordOf, machineOf, withPaging, withPassed, lastFrame, noRoom, HasRoom}
+use Rattle.record.specs.Record.{recordBytes, recordOf, withPaging, withPassed, lastFrame, noRoom, HasRoom}
 use Rattle.memory.specs.declared.Place.{Place}
 use Rattle.memory.specs.declared.Place.the-variants as place
 use Rattle.memory.specs.declared.Paged.{Paged}
@@ -23,7 +22,7 @@ use Rattle.memory.specs.declared.Paged.the-variants as paging
 use Rattle.memory.specs.Paging.{bitSet, write7ffd, pagingAfter}
 use Rattle.memory.specs.Memory.{placeOf, pokedIn, poked, loaded}
 use Rattle.ports.specs.Devices.{devicesOf}
-use Rattle.bus.specs.World.{Core, World, busOf, started, Sized}
+use Rattle.bus.specs.World.{Core, World, busOf, Sized}
 use Rattle.bus.specs.Time.{paged, unpass, Op, silent, inCore, inScreen, inEdge, worldAfter}
 use Rattle.bus.specs.Turns.{clocksOf, fresh, ranBy}
 use Rattle.bus.specs.Calls.{readValue, writeCode, pagingOps}
@@ -38,7 +37,7 @@ use Rattle.judgement.specs.declared.Verdict.the-variants.{Accepted}
 use Rattle.judgement.specs.Answers.{timedAnswer}
 use Rattle.judgement.specs.Order.{NoneHolds}
 use Rattle.judgement.proofs.Order.{state-ordered, wait-ordered, port-ordered, told-ordered, write-ordered, load-ordered, load-scr-ordered}
-use Rattle.contracts.specs.Timed.{Lent, lentBy, noValue, startFitsOf, startLeaves, start, Outcome, outcome, timedCall, timedEnd, judgeWaitOf, judgePortOf, waitInternal, waitAt, readIo, writeIo}
+use Rattle.contracts.specs.Timed.{Lent, lentBy, noValue, Outcome, outcome, timedCall, timedEnd, judgeWaitOf, judgePortOf, waitInternal, waitAt, readIo, writeIo}
 use Rattle.contracts.specs.Plain.{change, repage, writeInternal, write7ffdCall, resetFrames, loadPage, loadScr}
 use Rattle.contracts.specs.Calls.{TimedCall, plain, mreq, noMreq, portIn, portOut, Call, startAgain, takeTime, writeByte, writePaging, resetPassed, loadRam, loadScreen, ask, withRam, withState, waited, timedOps, opsOf, performed, timedCauses, causesOf, NotStarted}
 use Rattle.contracts.proofs.Ranges.{Typed}
@@ -72,17 +71,6 @@ takes Sinclair128K held v =
 
 pub sized-kept : (m : ZXMachine) (w w′ : World) → Sized m w → SameLengths w w′ → Sized m w′
 sized-kept m w w′ s h = record { ram = h .ram ∙ s .ram; a = h .a ∙ s .a; b = h .b ∙ s .b; pixels = h .pixels ∙ s .pixels }
-
--- WHAT AN ACCEPTED START LEAVES: the buffers of its machine as it begins
-started-by : (wrong fits : Bool) (l new : Lent) → cond wrong (startLeaves 1 l) (cond fits (startLeaves 0 new) (startLeaves 2 l)) .code ≡ 0
-    → cond wrong (startLeaves 1 l) (cond fits (startLeaves 0 new) (startLeaves 2 l)) .slices ≡ new
-started-by true fits l new z = absurd (omega arith)
-started-by false true l new z = refl
-started-by false false l new z = absurd (omega arith)
-
-pub start-left : (l : Lent) (machine : ℕ) → start l machine .code ≡ 0 → start l machine .slices ≡ lentBy (machineOf machine) (started (machineOf machine))
-unfolding start
-start-left l machine z = started-by (ltb 1 machine) (startFitsOf (machineOf machine) l) l (lentBy (machineOf machine) (started (machineOf machine))) z
 
 module _ (m : ZXMachine) (w : World) (sound : SoundWorld m w) (sized : Sized m w) where
   abbrev l : Lent

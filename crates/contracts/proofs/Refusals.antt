@@ -26,13 +26,13 @@ use Rattle.judgement.specs.declared.Refusal.the-variants.{BadMachine, BadLength
 use Rattle.judgement.specs.declared.Verdict.{Verdict}
 use Rattle.judgement.specs.declared.Verdict.the-variants.{Refused, Accepted}
 use Rattle.judgement.specs.Refusals.{refusalNumber, Cause, cause, judged}
-use Rattle.judgement.specs.Judges.{numberFits, unless, noCauses, waitCauses, portCauses, toldCauses, readCauses, writeCauses, loadCauses, ramPageCauses, blockCauses, shownCauses, stillCauses, saveScrCauses, loadScrCauses, judgeState, judgeTold, judgeRead, judgeWrite, judgeLoad, judgeRamPage, judgeBlock, judgeShown, judgeStill, judgeSaveScr, judgeLoadScr}
+use Rattle.judgement.specs.Judges.{numberFits, unless, noCauses, startCauses, waitCauses, portCauses, toldCauses, readCauses, writeCauses, loadCauses, ramPageCauses, blockCauses, shownCauses, stillCauses, saveScrCauses, loadScrCauses, judgeState, judgeTold, judgeRead, judgeWrite, judgeLoad, judgeRamPage, judgeBlock, judgeShown, judgeStill, judgeSaveScr, judgeLoadScr}
 use Rattle.judgement.specs.Answers.{refusedAnswer, timedLength, numberLength}
 use Rattle.judgement.specs.Order.{Ordered, Numbered, documentOrder, numbersOf, standIn, allCauses}
-use Rattle.judgement.proofs.Order.{by-list, state-ordered, wait-ordered, port-ordered, told-ordered, read-ordered, write-ordered, load-ordered, ram-page-ordered, block-ordered, shown-ordered, still-ordered, save-scr-ordered, load-scr-ordered}
-use Rattle.contracts.specs.Timed.{Lent, Outcome, timedCall, judgeWaitOf, judgePortOf, waitInternal, waitAt, readIo, writeIo, lentBy, startFitsOf, Started, startLeaves, start}
+use Rattle.judgement.proofs.Order.{by-list, start-ordered, state-ordered, wait-ordered, port-ordered, told-ordered, read-ordered, write-ordered, load-ordered, ram-page-ordered, block-ordered, shown-ordered, still-ordered, save-scr-ordered, load-scr-ordered}
+use Rattle.contracts.specs.Timed.{Lent, Outcome, timedCall, judgeWaitOf, judgePortOf, waitInternal, waitAt, readIo, writeIo, lentBy, Started, begun, judgeStartOf, start}
 use Rattle.contracts.specs.Plain.{codeOf, Told, told, tell, Changed, change, Repaged, repage, readInternal, writeInternal, write7ffdCall, read7ffd, intActive, framesCount, resetFrames, loadPage, saveScr, loadScr, stillPicture, ramPageTold, blockTold, shownTold}
-use Rattle.contracts.specs.Calls.{startCauses, helperCauses}
+use Rattle.contracts.specs.Calls.{startCausesOf, helperCauses}
 use Rattle.contracts.specs.Helpers.{help, helperCall, colourHelped, bitmapLineAddr, bitmapLineRel, bitmapColRel, attrRowRel, attrColRel, colorFromBits}
 
 -- ---- numbers: a refusal is known by its number, which is not 0
@@ -282,31 +282,41 @@ two-numbered causes code bus c s = numbered (judged causes bus) causes bus code 
 
 -- ---- start
 module _ (l new : Lent) where
-  abbrev startBy : Bool → Bool → Started
-  startBy s t = cond s (startLeaves (refusalNumber BadMachine) l) (cond t (startLeaves 0 new) (startLeaves (refusalNumber BadLength) l))
+  begun-code : (v : Verdict) → begun l new v .code ≡ codeOf v
+  unfolding begun
+  begun-code (Refused e) = refl
+  begun-code (Accepted bus) = refl
 
-  start-code : (s t : Bool) (bus : Bus) → startBy s t .code ≡ codeOf (judged (cause BadMachine s ∷ unless t ∷ []) bus)
-  unfolding judged
-  start-code true t bus = refl
-  start-code false true bus = refl
-  start-code false false bus = refl
+  begun-kept : (v : Verdict) → (begun l new v .code ≡ 0 → ⊥) → begun l new v .slices ≡ l
+  unfolding begun
+  begun-kept (Refused e) n = refl
+  begun-kept (Accepted bus) n = absurd (n refl)
 
-  start-kept : (s t : Bool) → (startBy s t .code ≡ 0 → ⊥) → startBy s t .slices ≡ l
-  start-kept true t n = refl
-  start-kept false true n = absurd (n refl)
-  start-kept false false n = refl
+  -- an accepted one leaves the new slices
+  pub begun-left : (v : Verdict) → begun l new v .code ≡ 0 → begun l new v .slices ≡ new
+  unfolding begun
+  begun-left (Refused e) z = absurd (not-zero e z)
+  begun-left (Accepted bus) z = refl
 
-pub start-numbered : (l : Lent) (machine : ℕ) → Numbered (start l machine .code) (startCauses l machine)
-unfolding start standIn
+pub start-numbered : (l : Lent) (machine : ℕ) → Numbered (start l machine .code) (startCausesOf l machine)
+unfolding start
 start-numbered l machine =
+    let v = judgeStartOf l machine in
     let m = machineOf machine in
-    two-numbered _ _ (startRecord m) (start-code l (lentBy m (started m)) (ltb 1 machine) (startFitsOf m l) (startRecord m)) refl
+    numbered v _ _ _ (begun-code l (lentBy m (started m)) v) (start-ordered (length (l .state)) (length (l .ram)) (length (l .a)) (length (l .b)) (length (l .border)) machine)
 
 pub start-unaltered : (l : Lent) (machine : ℕ) → (start l machine .code ≡ 0 → ⊥) → start l machine .slices ≡ l
 unfolding start
 start-unaltered l machine n =
     let m = machineOf machine in
-    start-kept l (lentBy m (started m)) (ltb 1 machine) (startFitsOf m l) n
+    begun-kept l (lentBy m (started m)) (judgeStartOf l machine) n
+
+-- WHAT AN ACCEPTED START LEAVES: the buffers of its machine as it begins
+pub start-left : (l : Lent) (machine : ℕ) → start l machine .code ≡ 0 → start l machine .slices ≡ lentBy (machineOf machine) (started (machineOf machine))
+unfolding start
+start-left l machine z =
+    let m = machineOf machine in
+    begun-left l (lentBy m (started m)) (judgeStartOf l machine) z
 
 -- ---- the helpers
 -- a helper that answers within its range only

@@ -4,10 +4,9 @@
 -- Assumes nothing.
 use Prim.Native.Nat.{ℕ, _<_}
 use mathlib.Core.Path.{_≡_, refl, sym, ap, subst, _∙_}
-use mathlib.Core.Bool.{Bool, true, false, cond}
+use mathlib.Core.Bool.{true}
 use mathlib.Core.List.{List, []}
 use native.Mathlib.Omega.{arith}
-use lib.Dec.{ltb}
 use lib.ListN.{length}
 use Rattle.laws.proofs.Cases.{by-bool}
 use Rattle.machine.specs.declared.ZXMachine.{ZXMachine}
@@ -22,7 +21,7 @@ use Rattle.record.proofs.Round.{held-encode, start-held}
 use Rattle.memory.specs.declared.Paged.{Paged}
 use Rattle.memory.specs.Paging.{bitSet, write7ffd, pagingAfter}
 use Rattle.ports.specs.Devices.{devicesOf}
-use Rattle.bus.specs.World.{Core, worldOf, busOf, started}
+use Rattle.bus.specs.World.{Core, worldOf, busOf}
 use Rattle.bus.specs.Time.{inCore, inScreen, inEdge}
 use Rattle.bus.specs.Turns.{Part, fresh, ranBy}
 use Rattle.bus.specs.Calls.{plainWait, addressWait, portRead, portWrite}
@@ -33,9 +32,9 @@ use Rattle.judgement.specs.declared.Verdict.{Verdict}
 use Rattle.judgement.specs.declared.Verdict.the-variants.{Refused, Accepted}
 use Rattle.judgement.specs.Judges.{judgeState, judgeTold}
 use Rattle.judgement.proofs.Accepted.{accepted-bytes, ready-wait, ready-port, ready-told, ready-state}
-use Rattle.contracts.specs.Timed.{Lent, lentBy, lentWorld, Outcome, timedCall, judgeWaitOf, judgePortOf, waitInternal, waitAt, readIo, writeIo, startLeaves, startFitsOf, start}
+use Rattle.contracts.specs.Timed.{Lent, lentWorld, Outcome, timedCall, judgeWaitOf, judgePortOf, waitInternal, waitAt, readIo, writeIo, start}
 use Rattle.contracts.specs.Plain.{Changed, change, Repaged, repage, write7ffdCall, resetFrames}
-use Rattle.contracts.proofs.Refusals.{not-zero}
+use Rattle.contracts.proofs.Refusals.{not-zero, start-left}
 
 -- these bytes are held as a sound record
 abbrev pub Good : List ℕ → Type 0
@@ -129,16 +128,10 @@ unfolding writeIo
 write-io-keeps l devices port value answer h g = timed-keeps _ _ _ _ (judgePortOf l devices answer) (writeIo l devices port value answer) refl (λ bus p. write-runs l devices port value answer bus h p) g
 
 -- ---- the other calls that write the record
-start-by : (m : ZXMachine) (l : Lent) (s t : Bool)
-    → cond s (startLeaves 1 l) (cond t (startLeaves 0 (lentBy m (started m))) (startLeaves 2 l)) .code ≡ 0
-    → Good (cond s (startLeaves 1 l) (cond t (startLeaves 0 (lentBy m (started m))) (startLeaves 2 l)) .slices .state)
-start-by m l true t c = absurd (omega arith)
-start-by m l false true c = (startRecord m, start-held m)
-start-by m l false false c = absurd (omega arith)
-
 pub start-sound : (l : Lent) (machine : ℕ) → start l machine .code ≡ 0 → Good (start l machine .slices .state)
-unfolding start
-start-sound l machine c = start-by (machineOf machine) l (ltb 1 machine) (startFitsOf (machineOf machine) l) c
+start-sound l machine c =
+    let m = machineOf machine in
+    subst (λ (x : Lent). Good (x .state)) (sym (start-left l machine c)) (startRecord m, start-held m)
 
 reset-good : (bus : Bus) → Sound bus → Good (recordBytes (withPassed 0 bus))
 unfolding inCore inScreen inEdge

@@ -5,10 +5,9 @@ use Prim.Native.Nat.{ℕ}
 use mathlib.Core.Bool.{Bool, not}
 use mathlib.Core.List.{List, [], _∷_, _++_}
 use mathlib.Core.Path.{_≡_}
-use lib.Dec.{leb, ltb}
+use lib.Dec.{leb}
 use lib.ListN.{length, take, drop}
 use Rattle.machine.specs.declared.ZXMachine.{ZXMachine}
-use Rattle.record.specs.Record.{machineOf}
 use Rattle.ports.specs.Devices.{devicesOf}
 use Rattle.bus.specs.Turns.{Part}
 use Rattle.bus.specs.Calls.{plainWait, addressWait, portRead, portWrite, pagingWrite}
@@ -16,12 +15,12 @@ use Rattle.bus.specs.Pokes.{byteWrite, pageLoad, passedReset}
 use Rattle.screen.specs.declared.Helped.{Helped}
 use Rattle.screen.specs.Address.{lineAddress, lineAt, columnAt, attributeRow, attributeColumn, isAttribute}
 use Rattle.screen.specs.Colour.{fromBits}
-use Rattle.judgement.specs.declared.Refusal.the-variants.{BadMachine, BadNumber}
+use Rattle.judgement.specs.declared.Refusal.the-variants.{BadNumber}
 use Rattle.judgement.specs.Refusals.{Cause, cause}
-use Rattle.judgement.specs.Judges.{numberFits, unless, noCauses, waitCauses, portCauses, toldCauses, readCauses, writeCauses, loadCauses, ramPageCauses, blockCauses, shownCauses, stillCauses, saveScrCauses, loadScrCauses}
+use Rattle.judgement.specs.Judges.{numberFits, unless, noCauses, startCauses, waitCauses, portCauses, toldCauses, readCauses, writeCauses, loadCauses, ramPageCauses, blockCauses, shownCauses, stillCauses, saveScrCauses, loadScrCauses}
 use Rattle.judgement.specs.Answers.{timedLength, numberLength, refusedAnswer}
 use Rattle.judgement.specs.Order.{allCauses}
-use Rattle.contracts.specs.Timed.{Lent, Outcome, startFitsOf, start, waitInternal, waitAt, readIo, writeIo}
+use Rattle.contracts.specs.Timed.{Lent, Outcome, start, waitInternal, waitAt, readIo, writeIo}
 use Rattle.contracts.specs.Plain.{Told, told, readInternal, writeInternal, write7ffdCall, read7ffd, intActive, framesCount, resetFrames, loadPage, saveScr, loadScr, stillPicture, ramPageTold, blockTold, shownTold}
 use Rattle.contracts.specs.Helpers.{helperCall, colourHelped}
 
@@ -158,9 +157,9 @@ timedCauses (noMreq addr n) l answer = waitCausesOf l n answer
 timedCauses (portIn devices port) l answer = portCausesOf l devices answer
 timedCauses (portOut devices port value) l answer = portCausesOf l devices answer
 
--- start: "start: machine above 1", then the lengths; the record is not judged
-abbrev pub startCauses : Lent → ℕ → List Cause
-startCauses l machine = cause BadMachine (ltb 1 machine) ∷ unless (startFitsOf (machineOf machine) l) ∷ []
+-- a start judges no record
+abbrev pub startCausesOf : Lent → ℕ → List Cause
+startCausesOf l machine = startCauses (length (l .state)) (length (l .ram)) (length (l .a)) (length (l .b)) (length (l .border)) machine
 
 -- the helpers: the answer's length, then 8, "a helper's number outside its range"
 abbrev pub helperRange : Helper → ℕ → Bool
@@ -187,7 +186,7 @@ questionCauses fileAsked l file = allCauses (l .state) (saveScrCauses (length (l
 questionCauses (help h n) l answer = helperCauses (helperRange h n) answer
 
 abbrev pub causesOf : Call → Lent → List Cause
-causesOf (startAgain machine) l = startCauses l machine
+causesOf (startAgain machine) l = startCausesOf l machine
 causesOf (takeTime t answer) l = timedCauses t l answer
 causesOf (writeByte addr value) l = allCauses (l .state) (writeCauses (length (l .ram)))
 causesOf (writePaging value answer) l = allCauses (l .state) (toldCauses (length answer))

@@ -1,24 +1,20 @@
 -- Document 01: start, the waits, port read and port write, as C calls them.
 -- Assumes nothing.
 use Prim.Native.Nat.{ℕ}
-use mathlib.Core.Bool.{Bool, cond, _&&_}
 use mathlib.Core.List.{List}
-use lib.Dec.{eqb, ltb}
 use lib.ListN.{length}
 use Rattle.machine.specs.declared.ZXMachine.{ZXMachine}
-use Rattle.machine.specs.Numbers.{specsOf}
 use Rattle.machine.specs.Timing.{interrupt}
 use Rattle.record.specs.declared.Bus.{Bus}
-use Rattle.record.specs.Record.{recordBytes, recordLength, machineOf}
+use Rattle.record.specs.Record.{recordBytes, machineOf}
 use Rattle.ports.specs.Devices.{devicesOf}
 use Rattle.bus.specs.World.{Core, World, worldOf, busOf, started}
 use Rattle.bus.specs.Turns.{Turn, Part, fresh, ranBy}
 use Rattle.bus.specs.Calls.{plainWait, addressWait, portRead, readValue, portWrite, writeCode}
-use Rattle.judgement.specs.declared.Refusal.the-variants.{BadMachine, BadLength}
 use Rattle.judgement.specs.declared.Verdict.{Verdict}
 use Rattle.judgement.specs.declared.Verdict.the-variants.{Refused, Accepted}
 use Rattle.judgement.specs.Refusals.{refusalNumber}
-use Rattle.judgement.specs.Judges.{judgeWait, judgePort, pictureFits, borderFits}
+use Rattle.judgement.specs.Judges.{judgeStart, judgeWait, judgePort}
 use Rattle.judgement.specs.Answers.{timedAnswer, refusedAnswer, timedLength}
 
 -- the machine's own slices: state record, RAM, pictures A and B, border
@@ -100,17 +96,14 @@ pub record Started : Type 0 where
 abbrev pub startLeaves : ℕ → Lent → Started
 startLeaves code slices = record { code = code; slices = slices }
 
--- ulb_start: "start: machine above 1", then the lengths; "a start only writes it and doesn't judge it"
-abbrev pub startFits : ZXMachine → ℕ → ℕ → ℕ → ℕ → ℕ → Bool
-startFits m state ram a b border =
-    eqb state recordLength && eqb ram (specsOf m .ram) && pictureFits a && pictureFits b && borderFits border
+-- a start by its verdict: the slices as they were, or the new ones
+unfoldable pub begun : Lent → Lent → Verdict → Started
+begun l new (Refused e) = startLeaves (refusalNumber e) l
+begun l new (Accepted bus) = startLeaves 0 new
 
-abbrev pub startFitsOf : ZXMachine → Lent → Bool
-startFitsOf m l = startFits m (length (l .state)) (length (l .ram)) (length (l .a)) (length (l .b)) (length (l .border))
+abbrev pub judgeStartOf : Lent → ℕ → Verdict
+judgeStartOf l machine = judgeStart (length (l .state)) (length (l .ram)) (length (l .a)) (length (l .b)) (length (l .border)) machine
 
+-- ulb_start: accepted, it leaves the slices of its machine as it begins
 unfoldable pub start : Lent → ℕ → Started
-start l machine =
-    cond (ltb 1 machine) (startLeaves (refusalNumber BadMachine) l)
-    (cond (startFitsOf (machineOf machine) l)
-    (startLeaves 0 (lentBy (machineOf machine) (started (machineOf machine))))
-    (startLeaves (refusalNumber BadLength) l))
+start l machine = begun l (lentBy (machineOf machine) (started (machineOf machine))) (judgeStartOf l machine)

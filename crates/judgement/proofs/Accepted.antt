@@ -15,7 +15,7 @@ use Rattle.machine.specs.Limits.{pictureLength, borderLength, pageLength, longe
 use Rattle.record.specs.declared.Bus.{Bus}
 use Rattle.record.specs.declared.Held.{Held}
 use Rattle.record.specs.declared.Held.the-variants as held
-use Rattle.record.specs.Record.{recordBytes, heldBy, lastFrame, noRoom, HasRoom}
+use Rattle.record.specs.Record.{recordLength, machineOf, startRecord, recordBytes, heldBy, lastFrame, noRoom, HasRoom}
 use Rattle.record.proofs.Soundness.{sound-facts}
 use Rattle.record.specs.Words.{Bytes}
 use Rattle.record.proofs.Round.{held-decode, held-sound, held-bytes}
@@ -24,12 +24,12 @@ use Rattle.memory.specs.Screens.{screenLength, videoPage}
 use Rattle.ports.specs.Devices.{flagsOf, devicesLength}
 use Rattle.judgement.specs.declared.Verdict.the-variants.{Accepted}
 use Rattle.judgement.specs.Refusals.{Cause, judgedHeld, judge}
-use Rattle.judgement.specs.Judges.{ramFits, romFits, pictureFits, borderFits, timedFits, numberFits, lentFit, judgeWait, judgePort, judgeState, judgeTold, judgeRead, judgeWrite, judgeLoad, judgeRamPage, judgeBlock, judgeShown, judgeStill, judgeSaveScr, judgeLoadScr}
+use Rattle.judgement.specs.Judges.{ramFits, romFits, pictureFits, borderFits, timedFits, numberFits, lentFit, startFits, judgeStart, judgeWait, judgePort, judgeState, judgeTold, judgeRead, judgeWrite, judgeLoad, judgeRamPage, judgeBlock, judgeShown, judgeStill, judgeSaveScr, judgeLoadScr}
 use Rattle.judgement.specs.Order.{NoneHolds}
-use Rattle.judgement.specs.Ready.{OnRecord, Fit, ReadyWait, ReadyPort, ReadyTold, ReadyRead, ReadyWrite, ReadyLoad, ReadyRamPage, ReadyBlock, ReadyShown, ReadyStill, ReadySaveScr, ReadyLoadScr}
+use Rattle.judgement.specs.Ready.{OnRecord, Fit, ReadyStart, ReadyWait, ReadyPort, ReadyTold, ReadyRead, ReadyWrite, ReadyLoad, ReadyRamPage, ReadyBlock, ReadyShown, ReadyStill, ReadySaveScr, ReadyLoadScr}
 use Rattle.judgement.specs.Answers.{timedLength, numberLength}
 use Rattle.judgement.proofs.Judging.{never}
-use Rattle.judgement.proofs.Order.{accepted-by-none}
+use Rattle.judgement.proofs.Order.{accepted-by-none, start-ordered}
 
 by-held : (h : Held) (causes : Bus → List Cause) (bus : Bus) → judgedHeld h causes ≡ Accepted bus → (h ≡ held.Sound bus) × NoneHolds (causes bus)
 by-held held.WrongLength causes bus p = never _ bus p
@@ -68,6 +68,21 @@ has-room : (bus : Bus) → bus .passed ≤ lastFrame → noRoom (bus .passed) �
 has-room bus h e = let n = eqb-false (bus .passed) lastFrame e in omega (arith, h, n)
 
 -- ---- every judgement
+pub ready-start : (state ram a b border machine : ℕ) (bus : Bus) → judgeStart state ram a b border machine ≡ Accepted bus → ReadyStart state ram a b border machine bus
+ready-start state ram a b border machine bus p =
+    let m = machineOf machine in
+    let r = start-ordered state ram a b border machine .acceptedByNone bus p in
+    let test = each (eqb state recordLength) (eqb ram (specsOf m .ram) ∷ pictureFits a ∷ pictureFits b ∷ borderFits border ∷ []) (not-false (startFits m state ram a b border) (r .0 .1 .0)) in
+    record {
+      known = ltb-false 1 machine (r .0 .0);
+      stateIs = eqb-true state recordLength (test 0);
+      ramIs = eqb-true ram (specsOf m .ram) (test 1);
+      aIs = eqb-true a pictureLength (test 2);
+      bIs = eqb-true b pictureLength (test 3);
+      borderIs = eqb-true border borderLength (test 4);
+      writes = r .1;
+    }
+
 module _ (state : List ℕ) (bus : Bus) where
   pub ready-wait : (ram a b border clocks answer : ℕ) → judgeWait state ram a b border clocks answer ≡ Accepted bus
       → ReadyWait state ram a b border clocks answer bus

@@ -9,12 +9,12 @@ use lib.Dec.{eqb}
 use lib.ListN.{length}
 use Rattle.record.specs.declared.Bus.{Bus}
 use Rattle.record.specs.declared.Held.the-variants as held
-use Rattle.record.specs.Record.{recordLength, recordOf, soundBytes, heldBy}
+use Rattle.record.specs.Record.{recordLength, recordOf, soundBytes, heldBy, machineOf, startRecord}
 use Rattle.judgement.specs.declared.Refusal.{Refusal}
 use Rattle.judgement.specs.declared.Verdict.{Verdict}
 use Rattle.judgement.specs.declared.Verdict.the-variants.{Refused, Accepted}
 use Rattle.judgement.specs.Refusals.{Cause, judged, judgedHeld, judge}
-use Rattle.judgement.specs.Judges.{waitCauses, judgeWait, portCauses, judgePort, noCauses, judgeState, toldCauses, judgeTold, readCauses, judgeRead, writeCauses, judgeWrite, loadCauses, judgeLoad, ramPageCauses, judgeRamPage, blockCauses, judgeBlock, shownCauses, judgeShown, stillCauses, saveScrCauses, loadScrCauses, judgeStill, judgeSaveScr, judgeLoadScr}
+use Rattle.judgement.specs.Judges.{startCauses, judgeStart, waitCauses, judgeWait, portCauses, judgePort, noCauses, judgeState, toldCauses, judgeTold, readCauses, judgeRead, writeCauses, judgeWrite, loadCauses, judgeLoad, ramPageCauses, judgeRamPage, blockCauses, judgeBlock, shownCauses, judgeShown, stillCauses, saveScrCauses, loadScrCauses, judgeStill, judgeSaveScr, judgeLoadScr}
 use Rattle.judgement.specs.Order.{NoneHolds, FirstHolds, allCauses, documentOrder, numbersOf, standIn, Ordered}
 use Rattle.judgement.proofs.Judging.{never}
 
@@ -106,6 +106,12 @@ judge-ordered : (state : List ℕ) (causes : Bus → List Cause) → standIn (nu
 judge-ordered state causes s = by-list (judge state causes) (allCauses state causes) (recordOf state) (in-order state causes) s
 
 -- ---- every judgement is judged by its causes, which stand in document 01's order
+-- a start judges no record, so that its own causes are all
+pub start-ordered : (state ram a b border machine : ℕ) → Ordered (judgeStart state ram a b border machine) (startCauses state ram a b border machine) (startRecord (machineOf machine))
+unfolding judgeStart standIn
+start-ordered state ram a b border machine =
+    by-list (judgeStart state ram a b border machine) (startCauses state ram a b border machine) (startRecord (machineOf machine)) refl refl
+
 module _ (state : List ℕ) where
   pub wait-ordered : (ram a b border clocks answer : ℕ) → Ordered (judgeWait state ram a b border clocks answer) (allCauses state (waitCauses ram a b border clocks answer)) (recordOf state)
   unfolding judgeWait standIn

@@ -6,16 +6,17 @@ use mathlib.Core.Bool.{Bool, not, _&&_}
 use mathlib.Core.List.{List, [], _∷_}
 use lib.Dec.{eqb, ltb}
 use lib.ListN.{length}
+use Rattle.machine.specs.declared.ZXMachine.{ZXMachine}
 use Rattle.machine.specs.Numbers.{specsOf}
 use Rattle.machine.specs.Limits.{pictureLength, borderLength, pageLength, longestWait}
 use Rattle.record.specs.declared.Bus.{Bus}
-use Rattle.record.specs.Record.{noRoom}
+use Rattle.record.specs.Record.{noRoom, recordLength, machineOf, startRecord}
 use Rattle.memory.specs.Paging.{pageExists}
 use Rattle.memory.specs.Screens.{screenLength, videoPage}
 use Rattle.ports.specs.Devices.{flagsOf, devicesLength}
-use Rattle.judgement.specs.declared.Refusal.the-variants.{BadLength, BadFlag, LongWait, FramesFull, BadPage, NoVideoPage, BadNumber}
+use Rattle.judgement.specs.declared.Refusal.the-variants.{BadMachine, BadLength, BadFlag, LongWait, FramesFull, BadPage, NoVideoPage, BadNumber}
 use Rattle.judgement.specs.declared.Verdict.{Verdict}
-use Rattle.judgement.specs.Refusals.{Cause, cause, judge}
+use Rattle.judgement.specs.Refusals.{Cause, cause, judged, judge}
 use Rattle.judgement.specs.Answers.{timedLength, numberLength}
 
 -- the lengths that are right: "RAM, ROM bytes" by the machine, "two pictures A and B of 49,152 bytes", "the border of 76,800 bytes"
@@ -65,6 +66,18 @@ noVideoPage bus page = cause NoVideoPage (not (videoPage (bus .machine) page))
 -- "a helper's number outside its range (.. block 3, still-picture flash 1)": a number above the last
 abbrev pub above : ℕ → ℕ → Cause
 above last number = cause BadNumber (ltb last number)
+
+-- start: "start: machine above 1", then the lengths of that machine's slices; "a start only writes [the record] and doesn't judge it"
+abbrev pub startFits : ZXMachine → ℕ → ℕ → ℕ → ℕ → ℕ → Bool
+startFits m state ram a b border =
+    eqb state recordLength && eqb ram (specsOf m .ram) && pictureFits a && pictureFits b && borderFits border
+
+abbrev pub startCauses : ℕ → ℕ → ℕ → ℕ → ℕ → ℕ → List Cause
+startCauses state ram a b border machine = cause BadMachine (ltb 1 machine) ∷ unless (startFits (machineOf machine) state ram a b border) ∷ []
+
+-- accepted, with the record that it writes
+unfoldable pub judgeStart : ℕ → ℕ → ℕ → ℕ → ℕ → ℕ → Verdict
+judgeStart state ram a b border machine = judged (startCauses state ram a b border machine) (startRecord (machineOf machine))
 
 -- the three waits
 abbrev pub waitCauses : ℕ → ℕ → ℕ → ℕ → ℕ → ℕ → Bus → List Cause

@@ -9,12 +9,22 @@ use Rattle.machine.specs.Numbers.{specsOf}
 use Rattle.machine.specs.Limits.{pictureLength, borderLength, pageLength, longestWait}
 use Rattle.record.specs.declared.Bus.{Bus}
 use Rattle.record.specs.declared.Held.the-variants as held
-use Rattle.record.specs.Record.{recordLength, recordOf, heldBy, HasRoom}
+use Rattle.record.specs.Record.{recordLength, recordOf, heldBy, HasRoom, machineOf, startRecord}
 use Rattle.record.specs.Sound.{Sound}
 use Rattle.memory.specs.Paging.{pageExists}
 use Rattle.memory.specs.Screens.{screenLength, videoPage}
 use Rattle.ports.specs.Devices.{flagsOf, devicesLength}
 use Rattle.judgement.specs.Answers.{timedLength, numberLength}
+
+-- a start's machine is one that there is, its slices have that machine's lengths, and this is the record to write
+pub record ReadyStart (state ram a b border machine : ℕ) (bus : Bus) : Type 0 where
+  pub known : machine ≤ 1
+  pub stateIs : state ≡ recordLength
+  pub ramIs : ram ≡ specsOf (machineOf machine) .ram
+  pub aIs : a ≡ pictureLength
+  pub bIs : b ≡ pictureLength
+  pub borderIs : border ≡ borderLength
+  pub writes : bus ≡ startRecord (machineOf machine)
 
 -- the lent record is sound, and is this one
 pub record OnRecord (state : List ℕ) (bus : Bus) : Type 0 where

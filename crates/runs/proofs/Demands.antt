@@ -9,7 +9,7 @@ use Rattle.record.specs.Record.{machineOf}
 use Rattle.bus.specs.World.{started}
 use Rattle.contracts.specs.Timed.{Lent, lentBy, start}
 use Rattle.contracts.specs.Calls.{loadScreen, Made, Obeyed, NoSecondStart}
-use Rattle.contracts.proofs.Acts.{start-left}
+use Rattle.contracts.proofs.Refusals.{start-left}
 use Rattle.rustzx.specs.Controller.{new, withRom}
 use Rattle.history.specs.Demand.{goneOn, history, Demand3}
 use Rattle.history.specs.Files.{FileStays, seenBefore, FileShows}

@@ -32,7 +32,8 @@ use Rattle.contracts.specs.Calls.{TimedCall, plain, mreq, noMreq, portIn, portO
 use Rattle.contracts.proofs.Ranges.{Typed, AllTyped}
 use Rattle.contracts.proofs.Still.{still-of}
 use Rattle.contracts.proofs.Calls.{call-numbered, call-refused}
-use Rattle.contracts.proofs.Acts.{sized-kept, start-left, acted}
+use Rattle.contracts.proofs.Refusals.{start-left}
+use Rattle.contracts.proofs.Acts.{sized-kept, acted}
 use Rattle.contracts.proofs.AsWhole.{as-whole, as-refused}
 use Rattle.rustzx.specs.Panics.{OrPanic, done, panics}
 use Rattle.rustzx.specs.Controller as rust

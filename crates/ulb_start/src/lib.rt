@@ -1,9 +1,11 @@
 // What it is: start at the C surface: ulb_start.
 // What it promises: the call accepts all bytes and numbers; what it returns, and every slice that it was lent at exit, is its definition of the slices at entry and the numbers.
-// Where its definitions stand: crate contracts, specs/Timed.antt.
+// Where its definitions stand: crate contracts, specs/Timed.antt; for which causes it is refused: crate judgement, specs/Judges.antt.
 ghost use mathlib.Core.Path.{_≡_};
-ghost use Rattle.contracts.specs.Timed.{lent, startFits, startLeaves, start};
+ghost use Rattle.judgement.specs.Judges.{startFits, judgeStart};
+ghost use Rattle.contracts.specs.Timed.{lent, startLeaves, start};
 use judgement::Refusal;
+use judgement::Verdict;
 use machine::ZXMachine;
 
 fn start_fits(m: ZXMachine, state: usize, ram: usize, a: usize, b: usize, border: usize) -> bool
@@ -15,6 +17,21 @@ fn start_fits(m: ZXMachine, state: usize, ram: usize, a: usize, b: usize, border
         & (a == machine::PICTURE_LENGTH)
         & (b == machine::PICTURE_LENGTH)
         & (border == machine::BORDER_LENGTH)
+}
+
+// Accepted, with the record that is to be written.
+fn judge_start(state: usize, ram: usize, a: usize, b: usize, border: usize, machine: u32) -> Verdict
+    ensures { λ r. ⌜ r ≡ judgeStart state ram a b border machine ⌝ }
+{
+    if 1 < machine {
+        return Verdict::Refused(Refusal::BadMachine);
+    }
+    let m = record::machine_from(machine as u8);
+    if start_fits(m, state, ram, a, b, border) {
+        Verdict::Accepted(record::start_record(m))
+    } else {
+        Verdict::Refused(Refusal::BadLength)
+    }
 }
 
 // The record is only written, whatever it holds; ROM is not lent, so that it cannot be touched.
@@ -31,18 +48,23 @@ pub extern "C" fn ulb_start(
         (lent (now (state .exit)) (now (ram .exit)) (now (a .exit)) (now (b .exit)) (now (border .exit)))
         ≡ start (lent (now (state .entry)) (now (ram .entry)) (now (a .entry)) (now (b .entry)) (now (border .entry))) machine ⌝ }
 {
-    if 1 < machine {
-        return judgement::number(Refusal::BadMachine);
-    }
-    let m = record::machine_from(machine as u8);
-    if start_fits(m, state.len(), ram.len(), a.len(), b.len(), border.len()) {
-        judgement::clear(ram);
-        judgement::clear(a);
-        judgement::clear(b);
-        judgement::clear(border);
-        record::encode(state, record::start_record(m));
-        0
-    } else {
-        judgement::number(Refusal::BadLength)
+    let v = judge_start(
+        state.len(),
+        ram.len(),
+        a.len(),
+        b.len(),
+        border.len(),
+        machine,
+    );
+    match v {
+        Verdict::Refused(e) => judgement::number(e),
+        Verdict::Accepted(bus) => {
+            judgement::clear(ram);
+            judgement::clear(a);
+            judgement::clear(b);
+            judgement::clear(border);
+            record::encode(state, bus);
+            0
+        }
     }
 }
