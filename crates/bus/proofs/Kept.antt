@@ -191,9 +191,9 @@ module _ (m : ZXMachine) where
       run-kept os (does m o w) s′ (r .1) (omega arith) (λ h. omega arith))
       (op-moves m o (w .core))
 
--- The world that a start leaves is sound.
-pub started-sound : (m : ZXMachine) → SoundWorld m (started m)
-started-sound m = sound-facts (startRecord m) (start-sound m)
+-- The world that a start leaves is sound, whichever of the eight colours is its first.
+pub started-sound : (m : ZXMachine) (first : ℕ) → first < 8 → SoundWorld m (started m first)
+started-sound m first h = sound-facts (startRecord m first) (start-sound m first h)
 
 -- ---- calls
 

@@ -90,9 +90,9 @@ module _ (m : ZXMachine) where
   call-lengths f w = subst (SameLengths w) (sym (ran-world (f (w .core)) (fresh m w))) (run-lengths (f (w .core)) w)
 
 -- A start's memory has the lengths that document 01 states.
-pub started-sized : (m : ZXMachine) → Sized m (started m)
+pub started-sized : (m : ZXMachine) (first : ℕ) → Sized m (started m first)
 unfolding clearRam clearPicture clearBorder
-started-sized m =
+started-sized m first =
     record {
       ram = length-replicate {A = ℕ} (specsOf m .ram) 0;
       a = length-replicate {A = ℕ} pictureLength 0;

@@ -59,7 +59,7 @@ busOf m w =
       pairs = w .edge .pairs;
     }
 
--- "Start clears RAM, pictures and border to 0 and writes a record of zeros but for mark, version, machine and beam colour 7."
+-- "Start clears RAM, pictures and border to 0 and writes a record of zeros but for mark, version, machine and beam colour"
 unfoldable pub clearRam : ZXMachine → List ℕ
 clearRam m = replicate (specsOf m .ram) 0
 
@@ -69,8 +69,9 @@ clearPicture = replicate pictureLength 0
 unfoldable pub clearBorder : List ℕ
 clearBorder = replicate borderLength 0
 
-abbrev pub started : ZXMachine → World
-started m = worldOf (startRecord m) (clearRam m) clearPicture clearPicture clearBorder
+-- the world that a start with a colour leaves
+abbrev pub started : ZXMachine → ℕ → World
+started m colour = worldOf (startRecord m colour) (clearRam m) clearPicture clearPicture clearBorder
 
 -- the memory of a machine has the lengths that document 01 gives it
 pub record Sized (m : ZXMachine) (w : World) : Type 0 where

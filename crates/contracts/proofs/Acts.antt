@@ -254,7 +254,7 @@ module _ (m : ZXMachine) (w : World) (sound : SoundWorld m w) (sized : Sized m w
   -- EVERY ACCEPTED CALL, whichever it is.
   pub acted : (k : Call) → NotStarted k 0 → Typed k → NoneHolds (causesOf k l) → Acted k
   unfolding opsOf performed worldAfter
-  acted (startAgain machine) first typed h = absurd (first refl)
+  acted (startAgain how) first typed h = absurd (first refl)
   acted (takeTime t answer) first typed h = record { slices = ap (λ (o : Outcome). o .slices) (timed-left t answer h); kept = timed-kept t answer h typed }
   acted (writeByte addr value) first typed h = write-acted addr value h
   acted (writePaging value answer) first typed h = paging-acted value answer typed h

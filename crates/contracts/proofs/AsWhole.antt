@@ -75,7 +75,7 @@ module _ (m : ZXMachine) (w : World) (sound : SoundWorld m w) (sized : Sized m w
   -- ACCEPTED.
   pub as-whole : (k : Call) → NotStarted k 0 → Typed k → performed k part .code ≡ 0 → back (performed k part) ≡ performed k l
   unfolding performed
-  as-whole (startAgain machine) first typed z = absurd (first refl)
+  as-whole (startAgain how) first typed z = absurd (first refl)
   as-whole (takeTime t answer) first typed z =
       let whole = timed-whole m w sound sized n t answer (call-numbered (takeTime t answer) part .zeroByNone z) in
       let same = lent-whole n l whole in

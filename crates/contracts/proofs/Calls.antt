@@ -7,7 +7,7 @@ use mathlib.Core.Path.{_≡_, refl, ap}
 use Rattle.judgement.specs.Order.{Numbered}
 use Rattle.contracts.specs.Timed.{Lent}
 use Rattle.contracts.specs.Plain.{told}
-use Rattle.contracts.specs.Calls.{TimedCall, plain, mreq, noMreq, portIn, portOut, Helper, lineAddr, lineOf, columnOf, attrRowOf, attrColumnOf, colourBits, Question, byteRead, pagingRead, interruptAsked, framesAsked, pageAsked, blockAsked, shownAsked, stillAsked, fileAsked, help, Call, startAgain, takeTime, writeByte, writePaging, resetPassed, loadRam, loadScreen, ask, Result, result, withRam, withState, waited, helpedBy, replied, performed, timedCauses, helperRange, helperCauses, questionCauses, causesOf, refusedReply, refusedFilled}
+use Rattle.contracts.specs.Calls.{Start, plainStart, colourStart, startedBy, startCausesOf, TimedCall, plain, mreq, noMreq, portIn, portOut, Helper, lineAddr, lineOf, columnOf, attrRowOf, attrColumnOf, colourBits, Question, byteRead, pagingRead, interruptAsked, framesAsked, pageAsked, blockAsked, shownAsked, stillAsked, fileAsked, help, Call, startAgain, takeTime, writeByte, writePaging, resetPassed, loadRam, loadScreen, ask, Result, result, withRam, withState, waited, helpedBy, replied, performed, timedCauses, helperRange, helperCauses, questionCauses, causesOf, refusedReply, refusedFilled}
 use Rattle.contracts.specs.Helpers.{helperCall}
 use Rattle.contracts.proofs.Refusals as refusals
 
@@ -41,10 +41,14 @@ reply-numbered (stillAsked flash) l picture = refusals.still-picture-numbered (l
 reply-numbered fileAsked l file = refusals.save-scr-numbered (l .state) (l .ram) file
 reply-numbered (help h n) l answer = helped-numbered h n answer
 
+started-numbered : (how : Start) (l : Lent) → Numbered (startedBy how l .code) (startCausesOf how l)
+started-numbered (plainStart machine) l = refusals.start-numbered l machine
+started-numbered (colourStart machine colour) l = refusals.start-colour-numbered l machine colour
+
 -- THE NUMBER OF ANY CALL is that of the first of its causes, in document 01's order, that holds; 0, exactly when none holds.
 pub call-numbered : (k : Call) (l : Lent) → Numbered (performed k l .code) (causesOf k l)
 unfolding performed
-call-numbered (startAgain machine) l = refusals.start-numbered l machine
+call-numbered (startAgain how) l = started-numbered how l
 call-numbered (takeTime t answer) l = timed-numbered t l answer
 call-numbered (writeByte addr value) l = refusals.write-internal-numbered (l .state) (l .ram) addr value
 call-numbered (writePaging value answer) l = refusals.write-7ffd-numbered (l .state) value answer
@@ -78,10 +82,14 @@ module _ (l : Lent) where
   reply-refused fileAsked file z = refusals.save-scr-unaltered (l .state) (l .ram) file z
   reply-refused (help h n) answer z = refusals.helper-unaltered (helpedBy h n) answer z
 
+  started-refused : (how : Start) → (startedBy how l .code ≡ 0 → ⊥) → startedBy how l .slices ≡ l
+  started-refused (plainStart machine) z = refusals.start-unaltered l machine z
+  started-refused (colourStart machine colour) z = refusals.start-colour-unaltered l machine colour z
+
   -- A REFUSED CALL, whichever it is, leaves the machine's slices as they were, and its answer as document 01 says.
   pub call-refused : (k : Call) → (performed k l .code ≡ 0 → ⊥) → performed k l ≡ result (performed k l .code) l (refusedFilled k (performed k l .code))
   unfolding performed
-  call-refused (startAgain machine) z = rw (refusals.start-unaltered l machine z)
+  call-refused (startAgain how) z = rw (started-refused how z)
   call-refused (takeTime t answer) z = timed-refused t answer z
   call-refused (writeByte addr value) z = rw (refusals.write-internal-unaltered (l .state) (l .ram) addr value z)
   call-refused (writePaging value answer) z =

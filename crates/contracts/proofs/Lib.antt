@@ -1,6 +1,7 @@
 pub mod Leaves
 pub mod Determined
 pub mod Refusals
+pub mod Starts
 pub mod Parts
 pub mod Sound
 pub mod Map

@@ -2,7 +2,7 @@
 -- Assumes nothing.
 use Prim.Native.Nat.{ℕ, _<_, _^_}
 use mathlib.Core.List.{List}
-use Rattle.contracts.specs.Calls.{plain, mreq, noMreq, portIn, portOut, Question, byteRead, pagingRead, interruptAsked, framesAsked, pageAsked, blockAsked, shownAsked, stillAsked, fileAsked, help, Call, startAgain, takeTime, writeByte, writePaging, resetPassed, loadRam, loadScreen, ask, Made, Each}
+use Rattle.contracts.specs.Calls.{plainStart, colourStart, plain, mreq, noMreq, portIn, portOut, Question, byteRead, pagingRead, interruptAsked, framesAsked, pageAsked, blockAsked, shownAsked, stillAsked, fileAsked, help, Call, startAgain, takeTime, writeByte, writePaging, resetPassed, loadRam, loadScreen, ask, Made, Each}
 
 -- what the types of the functions' parameters say of a call's numbers
 abbrev pub TypedQuestion : Question → Type 0
@@ -18,7 +18,8 @@ TypedQuestion fileAsked = Unit {0}
 TypedQuestion (help h n) = n < 2 ^ 32
 
 abbrev pub Typed : Call → Type 0
-Typed (startAgain machine) = machine < 2 ^ 32
+Typed (startAgain (plainStart machine)) = machine < 2 ^ 32
+Typed (startAgain (colourStart machine colour)) = (machine < 2 ^ 32) × (colour < 2 ^ 32)
 Typed (takeTime (plain n) answer) = n < 2 ^ 32
 Typed (takeTime (mreq addr n) answer) = (addr < 2 ^ 16) × (n < 2 ^ 32)
 Typed (takeTime (noMreq addr n) answer) = (addr < 2 ^ 16) × (n < 2 ^ 32)

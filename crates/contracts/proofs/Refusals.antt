@@ -29,10 +29,10 @@ use Rattle.judgement.specs.Refusals.{refusalNumber, Cause, cause, judged}
 use Rattle.judgement.specs.Judges.{numberFits, unless, noCauses, startCauses, waitCauses, portCauses, toldCauses, readCauses, writeCauses, loadCauses, ramPageCauses, blockCauses, shownCauses, stillCauses, saveScrCauses, loadScrCauses, judgeState, judgeTold, judgeRead, judgeWrite, judgeLoad, judgeRamPage, judgeBlock, judgeShown, judgeStill, judgeSaveScr, judgeLoadScr}
 use Rattle.judgement.specs.Answers.{refusedAnswer, timedLength, numberLength}
 use Rattle.judgement.specs.Order.{Ordered, Numbered, documentOrder, numbersOf, standIn, allCauses}
-use Rattle.judgement.proofs.Order.{by-list, start-ordered, state-ordered, wait-ordered, port-ordered, told-ordered, read-ordered, write-ordered, load-ordered, ram-page-ordered, block-ordered, shown-ordered, still-ordered, save-scr-ordered, load-scr-ordered}
-use Rattle.contracts.specs.Timed.{Lent, Outcome, timedCall, judgeWaitOf, judgePortOf, waitInternal, waitAt, readIo, writeIo, lentBy, Started, begun, judgeStartOf, start}
+use Rattle.judgement.proofs.Order.{by-list, start-ordered, start-colour-ordered, state-ordered, wait-ordered, port-ordered, told-ordered, read-ordered, write-ordered, load-ordered, ram-page-ordered, block-ordered, shown-ordered, still-ordered, save-scr-ordered, load-scr-ordered}
+use Rattle.contracts.specs.Timed.{Lent, Outcome, timedCall, judgeWaitOf, judgePortOf, waitInternal, waitAt, readIo, writeIo, lentBy, begun, judgeStartOf, start, startColour}
 use Rattle.contracts.specs.Plain.{codeOf, Told, told, tell, Changed, change, Repaged, repage, readInternal, writeInternal, write7ffdCall, read7ffd, intActive, framesCount, resetFrames, loadPage, saveScr, loadScr, stillPicture, ramPageTold, blockTold, shownTold}
-use Rattle.contracts.specs.Calls.{startCausesOf, helperCauses}
+use Rattle.contracts.specs.Calls.{plainStart, colourStart, startCausesOf, helperCauses}
 use Rattle.contracts.specs.Helpers.{help, helperCall, colourHelped, bitmapLineAddr, bitmapLineRel, bitmapColRel, attrRowRel, attrColRel, colorFromBits}
 
 -- ---- numbers: a refusal is known by its number, which is not 0
@@ -298,25 +298,29 @@ module _ (l new : Lent) where
   begun-left (Refused e) z = absurd (not-zero e z)
   begun-left (Accepted bus) z = refl
 
-pub start-numbered : (l : Lent) (machine : ℕ) → Numbered (start l machine .code) (startCausesOf l machine)
-unfolding start
-start-numbered l machine =
-    let v = judgeStartOf l machine in
-    let m = machineOf machine in
-    numbered v _ _ _ (begun-code l (lentBy m (started m)) v) (start-ordered (length (l .state)) (length (l .ram)) (length (l .a)) (length (l .b)) (length (l .border)) machine)
+module _ (l : Lent) (machine : ℕ) where
+  -- the slices of the machine as it begins
+  abbrev newLent : ℕ → Lent
+  newLent colour = lentBy (machineOf machine) (started (machineOf machine) colour)
 
-pub start-unaltered : (l : Lent) (machine : ℕ) → (start l machine .code ≡ 0 → ⊥) → start l machine .slices ≡ l
-unfolding start
-start-unaltered l machine n =
-    let m = machineOf machine in
-    begun-kept l (lentBy m (started m)) (judgeStartOf l machine) n
+  start-code : (colour : ℕ) → startColour l machine colour .code ≡ codeOf (judgeStartOf l machine colour)
+  unfolding startColour
+  start-code colour = begun-code l (newLent colour) (judgeStartOf l machine colour)
 
--- WHAT AN ACCEPTED START LEAVES: the buffers of its machine as it begins
-pub start-left : (l : Lent) (machine : ℕ) → start l machine .code ≡ 0 → start l machine .slices ≡ lentBy (machineOf machine) (started (machineOf machine))
-unfolding start
-start-left l machine z =
-    let m = machineOf machine in
-    begun-left l (lentBy m (started m)) (judgeStartOf l machine) z
+  pub start-numbered : Numbered (start l machine .code) (startCausesOf (plainStart machine) l)
+  start-numbered = numbered (judgeStartOf l machine 0) _ _ _ (start-code 0) (start-ordered (length (l .state)) (length (l .ram)) (length (l .a)) (length (l .b)) (length (l .border)) machine)
+
+  pub start-colour-numbered : (colour : ℕ) → Numbered (startColour l machine colour .code) (startCausesOf (colourStart machine colour) l)
+  start-colour-numbered colour =
+      numbered (judgeStartOf l machine colour) _ _ _ (start-code colour)
+      (start-colour-ordered (length (l .state)) (length (l .ram)) (length (l .a)) (length (l .b)) (length (l .border)) machine colour)
+
+  pub start-colour-unaltered : (colour : ℕ) → (startColour l machine colour .code ≡ 0 → ⊥) → startColour l machine colour .slices ≡ l
+  unfolding startColour
+  start-colour-unaltered colour n = begun-kept l (newLent colour) (judgeStartOf l machine colour) n
+
+  pub start-unaltered : (start l machine .code ≡ 0 → ⊥) → start l machine .slices ≡ l
+  start-unaltered n = start-colour-unaltered 0 n
 
 -- ---- the helpers
 -- a helper that answers within its range only
@@ -333,7 +337,7 @@ helper-code t false k answer bus = refl
 helper-numbered : (t : Bool) (k : ℕ) (answer : List ℕ) → Numbered (helperCall (ranged t k) answer .code) (helperCauses t answer)
 unfolding helperCall standIn
 helper-numbered t k answer =
-    let bus = startRecord Sinclair48K in
+    let bus = startRecord Sinclair48K 0 in
     two-numbered _ _ bus (helper-code t (numberFits (length answer)) k answer bus) refl
 
 pub helper-unaltered : (h : Helped) (answer : List ℕ) → (helperCall h answer .code ≡ 0 → ⊥)

@@ -32,9 +32,11 @@ use Rattle.judgement.specs.declared.Verdict.{Verdict}
 use Rattle.judgement.specs.declared.Verdict.the-variants.{Refused, Accepted}
 use Rattle.judgement.specs.Judges.{judgeState, judgeTold}
 use Rattle.judgement.proofs.Accepted.{accepted-bytes, ready-wait, ready-port, ready-told, ready-state}
-use Rattle.contracts.specs.Timed.{Lent, lentWorld, Outcome, timedCall, judgeWaitOf, judgePortOf, waitInternal, waitAt, readIo, writeIo, start}
+use Rattle.contracts.specs.Timed.{Lent, lentWorld, Outcome, timedCall, judgeWaitOf, judgePortOf, waitInternal, waitAt, readIo, writeIo}
 use Rattle.contracts.specs.Plain.{Changed, change, Repaged, repage, write7ffdCall, resetFrames}
-use Rattle.contracts.proofs.Refusals.{not-zero, start-left}
+use Rattle.contracts.specs.Calls.{Start, askedMachine, firstColour, startedBy}
+use Rattle.contracts.proofs.Refusals.{not-zero}
+use Rattle.contracts.proofs.Starts.{start-left, first-small}
 
 -- these bytes are held as a sound record
 abbrev pub Good : List ℕ → Type 0
@@ -128,10 +130,11 @@ unfolding writeIo
 write-io-keeps l devices port value answer h g = timed-keeps _ _ _ _ (judgePortOf l devices answer) (writeIo l devices port value answer) refl (λ bus p. write-runs l devices port value answer bus h p) g
 
 -- ---- the other calls that write the record
-pub start-sound : (l : Lent) (machine : ℕ) → start l machine .code ≡ 0 → Good (start l machine .slices .state)
-start-sound l machine c =
-    let m = machineOf machine in
-    subst (λ (x : Lent). Good (x .state)) (sym (start-left l machine c)) (startRecord m, start-held m)
+pub start-sound : (how : Start) (l : Lent) → startedBy how l .code ≡ 0 → Good (startedBy how l .slices .state)
+start-sound how l c =
+    let m = machineOf (askedMachine how) in
+    let colour = firstColour how in
+    subst (λ (x : Lent). Good (x .state)) (sym (start-left how l c)) (startRecord m colour, start-held m colour (first-small how l c))
 
 reset-good : (bus : Bus) → Sound bus → Good (recordBytes (withPassed 0 bus))
 unfolding inCore inScreen inEdge

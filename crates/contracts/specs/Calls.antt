@@ -17,14 +17,19 @@ use Rattle.screen.specs.Address.{lineAddress, lineAt, columnAt, attributeRow, a
 use Rattle.screen.specs.Colour.{fromBits}
 use Rattle.judgement.specs.declared.Refusal.the-variants.{BadNumber}
 use Rattle.judgement.specs.Refusals.{Cause, cause}
-use Rattle.judgement.specs.Judges.{numberFits, unless, noCauses, startCauses, waitCauses, portCauses, toldCauses, readCauses, writeCauses, loadCauses, ramPageCauses, blockCauses, shownCauses, stillCauses, saveScrCauses, loadScrCauses}
+use Rattle.judgement.specs.Judges.{numberFits, unless, noCauses, startCauses, startColourCauses, waitCauses, portCauses, toldCauses, readCauses, writeCauses, loadCauses, ramPageCauses, blockCauses, shownCauses, stillCauses, saveScrCauses, loadScrCauses}
 use Rattle.judgement.specs.Answers.{timedLength, numberLength, refusedAnswer}
 use Rattle.judgement.specs.Order.{allCauses}
-use Rattle.contracts.specs.Timed.{Lent, Outcome, start, waitInternal, waitAt, readIo, writeIo}
+use Rattle.contracts.specs.Timed.{Lent, Outcome, Started, start, startColour, waitInternal, waitAt, readIo, writeIo}
 use Rattle.contracts.specs.Plain.{Told, told, readInternal, writeInternal, write7ffdCall, read7ffd, intActive, framesCount, resetFrames, loadPage, saveScr, loadScr, stillPicture, ramPageTold, blockTold, shownTold}
 use Rattle.contracts.specs.Helpers.{helperCall, colourHelped}
 
 -- ---- the calls, each with its numbers and with the contents of the slices that are not the machine's own: device record, ROM, page bytes, screen file
+
+-- the two starts: the machine's number, and in the second the beam's colour
+pub data Start : Type 0 where
+  plainStart : ℕ → Start
+  colourStart : ℕ → ℕ → Start
 
 -- the timed calls
 pub data TimedCall : Type 0 where
@@ -58,7 +63,7 @@ pub data Question : Type 0 where
 
 -- any call; the last list of one is the slice that it fills: the answer, the still's picture, or the screen file
 pub data Call : Type 0 where
-  startAgain : ℕ → Call
+  startAgain : Start → Call
   takeTime : TimedCall → List ℕ → Call
   writeByte : ℕ → ℕ → Call
   writePaging : ℕ → List ℕ → Call
@@ -83,6 +88,19 @@ abbrev pub withState : Lent → List ℕ → Lent
 withState l state = record { state = state; ram = l .ram; a = l .a; b = l .b; border = l .border }
 
 -- ---- each call by its definition, which its contract says of the code
+-- of a start: the machine that is asked for, and "the start's colour being the first" (demand 3)
+abbrev pub askedMachine : Start → ℕ
+askedMachine (plainStart machine) = machine
+askedMachine (colourStart machine colour) = machine
+
+abbrev pub firstColour : Start → ℕ
+firstColour (plainStart machine) = 0
+firstColour (colourStart machine colour) = colour
+
+abbrev pub startedBy : Start → Lent → Started
+startedBy (plainStart machine) l = start l machine
+startedBy (colourStart machine colour) l = startColour l machine colour
+
 unfoldable pub waited : TimedCall → Lent → List ℕ → Outcome
 waited (plain n) l answer = waitInternal l n answer
 waited (mreq addr n) l answer = waitAt l addr n answer
@@ -100,7 +118,7 @@ timedOps (portOut devices port value) m = portWrite m (devicesOf devices) port v
 
 -- the operations of an accepted call; a second start has none
 unfoldable pub opsOf : ZXMachine → Call → Part
-opsOf m (startAgain machine) c = []
+opsOf m (startAgain how) c = []
 opsOf m (takeTime t answer) c = timedOps t m c
 opsOf m (writeByte addr value) c = byteWrite m addr value c
 opsOf m (writePaging value answer) c = pagingWrite m value c
@@ -134,7 +152,7 @@ replied fileAsked l file =
 replied (help h n) l answer = helperCall (helpedBy h n) answer
 
 unfoldable pub performed : Call → Lent → Result
-performed (startAgain machine) l = let s = start l machine in result (s .code) (s .slices) []
+performed (startAgain how) l = let s = startedBy how l in result (s .code) (s .slices) []
 performed (takeTime t answer) l = let o = waited t l answer in result (o .code) (o .slices) (o .answer)
 performed (writeByte addr value) l = let c = writeInternal (l .state) (l .ram) addr value in result (c .code) (withRam l (c .slice)) []
 performed (writePaging value answer) l = let c = write7ffdCall (l .state) value answer in result (c .code) (withState l (c .state)) (c .answer)
@@ -158,8 +176,10 @@ timedCauses (portIn devices port) l answer = portCausesOf l devices answer
 timedCauses (portOut devices port value) l answer = portCausesOf l devices answer
 
 -- a start judges no record
-abbrev pub startCausesOf : Lent → ℕ → List Cause
-startCausesOf l machine = startCauses (length (l .state)) (length (l .ram)) (length (l .a)) (length (l .b)) (length (l .border)) machine
+abbrev pub startCausesOf : Start → Lent → List Cause
+startCausesOf (plainStart machine) l = startCauses (length (l .state)) (length (l .ram)) (length (l .a)) (length (l .b)) (length (l .border)) machine
+startCausesOf (colourStart machine colour) l =
+    startColourCauses (length (l .state)) (length (l .ram)) (length (l .a)) (length (l .b)) (length (l .border)) machine colour
 
 -- the helpers: the answer's length, then 8, "a helper's number outside its range"
 abbrev pub helperRange : Helper → ℕ → Bool
@@ -186,7 +206,7 @@ questionCauses fileAsked l file = allCauses (l .state) (saveScrCauses (length (l
 questionCauses (help h n) l answer = helperCauses (helperRange h n) answer
 
 abbrev pub causesOf : Call → Lent → List Cause
-causesOf (startAgain machine) l = startCausesOf l machine
+causesOf (startAgain how) l = startCausesOf how l
 causesOf (takeTime t answer) l = timedCauses t l answer
 causesOf (writeByte addr value) l = allCauses (l .state) (writeCauses (length (l .ram)))
 causesOf (writePaging value answer) l = allCauses (l .state) (toldCauses (length answer))
@@ -209,7 +229,7 @@ refusedReply fileAsked file code = file
 refusedReply (help h n) answer code = refusedAnswer numberLength code answer
 
 abbrev pub refusedFilled : Call → ℕ → List ℕ
-refusedFilled (startAgain machine) code = []
+refusedFilled (startAgain how) code = []
 refusedFilled (takeTime t answer) code = refusedAnswer timedLength code answer
 refusedFilled (writeByte addr value) code = []
 refusedFilled (writePaging value answer) code = refusedAnswer numberLength code answer
@@ -284,9 +304,9 @@ abbrev pub Each : (Made → Type 0) → List Made → Type 0
 Each P [] = Unit {0}
 Each P (c ∷ cs) = P c × Each P cs
 
--- "with no second start": a start that is called again is refused
+-- "with no second start": a start that is called again, whichever of the two, is refused
 abbrev pub NotStarted : Call → ℕ → Type 0
-NotStarted (startAgain machine) code = code ≡ 0 → ⊥
+NotStarted (startAgain how) code = code ≡ 0 → ⊥
 NotStarted (takeTime t answer) code = Unit {0}
 NotStarted (writeByte addr value) code = Unit {0}
 NotStarted (writePaging value answer) code = Unit {0}

@@ -1,4 +1,4 @@
--- Document 01: start, the waits, port read and port write, as C calls them.
+-- Document 01: start, the waits, port read and port write, as C calls them; and the start of document 02 that takes a colour (Q-3).
 -- Assumes nothing.
 use Prim.Native.Nat.{ℕ}
 use mathlib.Core.List.{List}
@@ -101,9 +101,14 @@ unfoldable pub begun : Lent → Lent → Verdict → Started
 begun l new (Refused e) = startLeaves (refusalNumber e) l
 begun l new (Accepted bus) = startLeaves 0 new
 
-abbrev pub judgeStartOf : Lent → ℕ → Verdict
-judgeStartOf l machine = judgeStart (length (l .state)) (length (l .ram)) (length (l .a)) (length (l .b)) (length (l .border)) machine
+abbrev pub judgeStartOf : Lent → ℕ → ℕ → Verdict
+judgeStartOf l machine colour =
+    judgeStart (length (l .state)) (length (l .ram)) (length (l .a)) (length (l .b)) (length (l .border)) machine colour
 
--- ulb_start: accepted, it leaves the slices of its machine as it begins
-unfoldable pub start : Lent → ℕ → Started
-start l machine = begun l (lentBy (machineOf machine) (started (machineOf machine))) (judgeStartOf l machine)
+-- ulb_start_colour, "a second start that takes the beam colour" (02, Q-3): accepted, it leaves the slices of its machine as it begins
+unfoldable pub startColour : Lent → ℕ → ℕ → Started
+startColour l machine colour = begun l (lentBy (machineOf machine) (started (machineOf machine) colour)) (judgeStartOf l machine colour)
+
+-- ulb_start: "Start shall set the beam colour to 0, as the reported border already is" (02, Q-3)
+abbrev pub start : Lent → ℕ → Started
+start l machine = startColour l machine 0

@@ -86,7 +86,7 @@ module _ (m : ZXMachine) (first : ℕ) where
 
   leaves : (k : Call) → LeavesBorder m (opsOf m k)
   unfolding opsOf
-  leaves (startAgain machine) = silent-leaves (opsOf m (startAgain machine)) (λ c. tt)
+  leaves (startAgain how) = silent-leaves (opsOf m (startAgain how)) (λ c. tt)
   leaves (takeTime (plain n) answer) = plain-leaves m n
   leaves (takeTime (mreq addr n) answer) = address-leaves m addr n
   leaves (takeTime (noMreq addr n) answer) = address-leaves m addr n

@@ -122,7 +122,7 @@ module _ (m : ZXMachine) where
   either : (w : World) (sound : SoundWorld m w) (sized : Sized m w) (k : Call) → NotStarted k 0 → Typed k → performed k (lentBy m w) .code ≡ 0
       → AllInCall m (opsOf m k (w .core)) ⊎ AllSilent (opsOf m k (w .core))
   unfolding opsOf
-  either w sound sized (startAgain machine) first typed z = absurd (first refl)
+  either w sound sized (startAgain how) first typed z = absurd (first refl)
   either w sound sized (takeTime t answer) first typed z =
       inl (part-timed m w sound sized t answer (call-numbered (takeTime t answer) (lentBy m w) .zeroByNone z) typed .inCall (w .core))
   either w sound sized (writeByte addr value) first typed z = inr (poke-silent (placeOf m (w .core .paging) addr) value)

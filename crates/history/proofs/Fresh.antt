@@ -79,11 +79,11 @@ module _ (m : ZXMachine) (w : World) (f : Fresh m w) where
       nothing-painted : (i : ℕ) → i < paintedTo (w .edge) → ⊥
       nothing-painted i = rw (f .unblocked, f .pairs) (λ h. omega arith)
 
--- The world that a start leaves is fresh, and its first colour is 7.
-pub started-fresh : (m : ZXMachine) → Fresh m (started m)
-started-fresh m =
+-- The world that a start leaves is fresh, and its first colour is the start's, whichever of the eight that is.
+pub started-fresh : (m : ZXMachine) (colour : ℕ) → colour < 8 → Fresh m (started m colour)
+started-fresh m colour h =
     record {
-      sound = started-sound m;
+      sound = started-sound m colour h;
       ram = ram-size m;
       clock = refl;
       painted = refl;
@@ -94,5 +94,5 @@ started-fresh m =
       pixels = refl;
     }
 
-pub started-colour : (m : ZXMachine) → started m .edge .colour ≡ 7
-started-colour m = refl
+pub started-colour : (m : ZXMachine) (colour : ℕ) → started m colour .edge .colour ≡ colour
+started-colour m colour = refl

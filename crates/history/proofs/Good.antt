@@ -25,7 +25,7 @@ use Rattle.judgement.specs.Judges.{ramFits}
 use Rattle.judgement.specs.Answers.{timedLength}
 use Rattle.judgement.specs.Order.{NoneHolds, FirstHolds, recordCauses}
 use Rattle.contracts.specs.Timed.{Lent, lentBy}
-use Rattle.contracts.specs.Calls.{plain, mreq, noMreq, portIn, portOut, byteRead, pagingRead, interruptAsked, framesAsked, pageAsked, blockAsked, shownAsked, stillAsked, fileAsked, help, Call, startAgain, takeTime, writeByte, writePaging, resetPassed, loadRam, loadScreen, ask, performed, waitCausesOf, causesOf, Portions, lentOf}
+use Rattle.contracts.specs.Calls.{plainStart, colourStart, plain, mreq, noMreq, portIn, portOut, byteRead, pagingRead, interruptAsked, framesAsked, pageAsked, blockAsked, shownAsked, stillAsked, fileAsked, help, Call, startAgain, takeTime, writeByte, writePaging, resetPassed, loadRam, loadScreen, ask, performed, waitCausesOf, causesOf, Portions, lentOf}
 use Rattle.contracts.proofs.Calls.{call-numbered}
 use Rattle.contracts.proofs.Wholes.{record-of, state-whole}
 
@@ -107,7 +107,8 @@ module _ (m : ZXMachine) (w : World) (sound : SoundWorld m w) (sized : Sized m w
       (λ long. ap not (ap soundBytes (state-whole m w sound sized n long) ∙ own-sound m w sound sized)) h
 
   first-by : (k : Call) → FirstHolds (causesOf k part) Unsound → ⊥
-  first-by (startAgain machine) f = clean-first _ refl f
+  first-by (startAgain (plainStart machine)) f = clean-first _ refl f
+  first-by (startAgain (colourStart machine first)) f = clean-first _ refl f
   first-by (takeTime (plain k) answer) f = record-first _ refl f
   first-by (takeTime (mreq addr k) answer) f = record-first _ refl f
   first-by (takeTime (noMreq addr k) answer) f = record-first _ refl f

@@ -15,3 +15,4 @@ pub mod Demand3
 pub mod Sentences
 pub mod Stills
 pub mod Files
+pub mod First

@@ -50,7 +50,7 @@ record Reported (m : ZXMachine) (k : Call) (r : Result) (os : List Op) (w : Worl
 
 -- a refused call reports nothing
 nothing : (f : List ℕ → ℕ) (k : Call) (code : ℕ) (filled : List ℕ) → eqb code 0 ≡ false → reported f k code filled ≡ 0
-nothing f (startAgain machine) code filled e = refl
+nothing f (startAgain how) code filled e = refl
 nothing f (takeTime t answer) code filled e = rw e
 nothing f (writeByte addr value) code filled e = refl
 nothing f (writePaging value answer) code filled e = refl
@@ -93,7 +93,7 @@ module _ (m : ZXMachine) (w : World) (sound : SoundWorld m w) (sized : Sized m w
 
   all-reported : (k : Call) → NotStarted k 0 → Typed k → performed k l .code ≡ 0 → Reported m k (performed k l) (opsOf m k (w .core)) w
   unfolding opsOf
-  all-reported (startAgain machine) first typed z = absurd (first refl)
+  all-reported (startAgain how) first typed z = absurd (first refl)
   all-reported (takeTime t answer) first typed z = timed-reported t answer typed z
   all-reported (writeByte addr value) first typed z =
       silent-reported (writeByte addr value) _ (poke-silent (placeOf m (w .core .paging) addr) value) (λ f code filled. refl)
@@ -162,7 +162,7 @@ module _ (m : ZXMachine) (w : World) (sound : SoundWorld m w) (sized : Sized m w
   -- "No accepted port call takes under 4 or over 16 clocks.", as its answer says them
   port-by : (k : Call) (c : Made) → c .call ≡ k → Tied m c (operations m c (w .core)) w → PortTakes k c
   unfolding opsOf
-  port-by (startAgain machine) c e t = tt
+  port-by (startAgain how) c e t = tt
   port-by (takeTime (plain n) answer) c e t = tt
   port-by (takeTime (mreq addr n) answer) c e t = tt
   port-by (takeTime (noMreq addr n) answer) c e t = tt

@@ -3,3 +3,4 @@ pub mod Fresh
 pub mod Reports
 pub mod Demand
 pub mod Files
+pub mod First

@@ -11,7 +11,7 @@ use Rattle.contracts.specs.Calls.{plain, mreq, noMreq, portIn, portOut, Call, s
 
 -- "Clocks reported", "Blocks reported": those of the answer's bytes, of an accepted timed call; no other call reports any
 abbrev pub reported : (List ℕ → ℕ) → Call → ℕ → List ℕ → ℕ
-reported f (startAgain machine) code filled = 0
+reported f (startAgain how) code filled = 0
 reported f (takeTime t answer) code filled = cond (eqb code 0) (f filled) 0
 reported f (writeByte addr value) code filled = 0
 reported f (writePaging value answer) code filled = 0
@@ -54,7 +54,7 @@ abbrev pub FourToSixteen : Made → Type 0
 FourToSixteen c = c .result .code ≡ 0 → (4 ≤ reportedClocks c) × (reportedClocks c ≤ 16)
 
 abbrev pub PortTakes : Call → Made → Type 0
-PortTakes (startAgain machine) c = Unit {0}
+PortTakes (startAgain how) c = Unit {0}
 PortTakes (takeTime (plain n) answer) c = Unit {0}
 PortTakes (takeTime (mreq addr n) answer) c = Unit {0}
 PortTakes (takeTime (noMreq addr n) answer) c = Unit {0}

@@ -29,7 +29,7 @@ use Rattle.judgement.specs.Order.{NoneHolds}
 use Rattle.judgement.specs.Ready.{OnRecord, Fit, ReadyStart, ReadyWait, ReadyPort, ReadyTold, ReadyRead, ReadyWrite, ReadyLoad, ReadyRamPage, ReadyBlock, ReadyShown, ReadyStill, ReadySaveScr, ReadyLoadScr}
 use Rattle.judgement.specs.Answers.{timedLength, numberLength}
 use Rattle.judgement.proofs.Judging.{never}
-use Rattle.judgement.proofs.Order.{accepted-by-none, start-ordered}
+use Rattle.judgement.proofs.Order.{accepted-by-none, start-colour-ordered}
 
 by-held : (h : Held) (causes : Bus → List Cause) (bus : Bus) → judgedHeld h causes ≡ Accepted bus → (h ≡ held.Sound bus) × NoneHolds (causes bus)
 by-held held.WrongLength causes bus p = never _ bus p
@@ -68,10 +68,11 @@ has-room : (bus : Bus) → bus .passed ≤ lastFrame → noRoom (bus .passed) �
 has-room bus h e = let n = eqb-false (bus .passed) lastFrame e in omega (arith, h, n)
 
 -- ---- every judgement
-pub ready-start : (state ram a b border machine : ℕ) (bus : Bus) → judgeStart state ram a b border machine ≡ Accepted bus → ReadyStart state ram a b border machine bus
-ready-start state ram a b border machine bus p =
+pub ready-start : (state ram a b border machine colour : ℕ) (bus : Bus) → judgeStart state ram a b border machine colour ≡ Accepted bus
+    → ReadyStart state ram a b border machine colour bus
+ready-start state ram a b border machine colour bus p =
     let m = machineOf machine in
-    let r = start-ordered state ram a b border machine .acceptedByNone bus p in
+    let r = start-colour-ordered state ram a b border machine colour .acceptedByNone bus p in
     let test = each (eqb state recordLength) (eqb ram (specsOf m .ram) ∷ pictureFits a ∷ pictureFits b ∷ borderFits border ∷ []) (not-false (startFits m state ram a b border) (r .0 .1 .0)) in
     record {
       known = ltb-false 1 machine (r .0 .0);
@@ -80,6 +81,7 @@ ready-start state ram a b border machine bus p =
       aIs = eqb-true a pictureLength (test 2);
       bIs = eqb-true b pictureLength (test 3);
       borderIs = eqb-true border borderLength (test 4);
+      colourIn = ltb-false 7 colour (r .0 .1 .1 .0);
       writes = r .1;
     }
 

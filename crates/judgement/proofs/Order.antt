@@ -14,7 +14,7 @@ use Rattle.judgement.specs.declared.Refusal.{Refusal}
 use Rattle.judgement.specs.declared.Verdict.{Verdict}
 use Rattle.judgement.specs.declared.Verdict.the-variants.{Refused, Accepted}
 use Rattle.judgement.specs.Refusals.{Cause, judged, judgedHeld, judge}
-use Rattle.judgement.specs.Judges.{startCauses, judgeStart, waitCauses, judgeWait, portCauses, judgePort, noCauses, judgeState, toldCauses, judgeTold, readCauses, judgeRead, writeCauses, judgeWrite, loadCauses, judgeLoad, ramPageCauses, judgeRamPage, blockCauses, judgeBlock, shownCauses, judgeShown, stillCauses, saveScrCauses, loadScrCauses, judgeStill, judgeSaveScr, judgeLoadScr}
+use Rattle.judgement.specs.Judges.{startCauses, startColourCauses, judgeStart, waitCauses, judgeWait, portCauses, judgePort, noCauses, judgeState, toldCauses, judgeTold, readCauses, judgeRead, writeCauses, judgeWrite, loadCauses, judgeLoad, ramPageCauses, judgeRamPage, blockCauses, judgeBlock, shownCauses, judgeShown, stillCauses, saveScrCauses, loadScrCauses, judgeStill, judgeSaveScr, judgeLoadScr}
 use Rattle.judgement.specs.Order.{NoneHolds, FirstHolds, allCauses, documentOrder, numbersOf, standIn, Ordered}
 use Rattle.judgement.proofs.Judging.{never}
 
@@ -107,10 +107,17 @@ judge-ordered state causes s = by-list (judge state causes) (allCauses state cau
 
 -- ---- every judgement is judged by its causes, which stand in document 01's order
 -- a start judges no record, so that its own causes are all
-pub start-ordered : (state ram a b border machine : ℕ) → Ordered (judgeStart state ram a b border machine) (startCauses state ram a b border machine) (startRecord (machineOf machine))
-unfolding judgeStart standIn
-start-ordered state ram a b border machine =
-    by-list (judgeStart state ram a b border machine) (startCauses state ram a b border machine) (startRecord (machineOf machine)) refl refl
+module _ (state ram a b border machine : ℕ) where
+  pub start-colour-ordered : (colour : ℕ)
+      → Ordered (judgeStart state ram a b border machine colour) (startColourCauses state ram a b border machine colour) (startRecord (machineOf machine) colour)
+  unfolding judgeStart standIn
+  start-colour-ordered colour =
+      by-list (judgeStart state ram a b border machine colour) (startColourCauses state ram a b border machine colour) (startRecord (machineOf machine) colour) refl refl
+
+  -- with colour 0 the last of them never holds
+  pub start-ordered : Ordered (judgeStart state ram a b border machine 0) (startCauses state ram a b border machine) (startRecord (machineOf machine) 0)
+  unfolding judgeStart judged standIn
+  start-ordered = by-list (judgeStart state ram a b border machine 0) (startCauses state ram a b border machine) (startRecord (machineOf machine) 0) refl refl
 
 module _ (state : List ℕ) where
   pub wait-ordered : (ram a b border clocks answer : ℕ) → Ordered (judgeWait state ram a b border clocks answer) (allCauses state (waitCauses ram a b border clocks answer)) (recordOf state)

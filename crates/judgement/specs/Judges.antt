@@ -1,9 +1,9 @@
--- Document 01, "Eight refusals", and document 02, Q-2: the causes of each call, in the stated order, over the sound record that it was lent; and the judgement by
+-- Document 01, "Eight refusals", and document 02, Q-2 and Q-3: the causes of each call, in the stated order, over the sound record that it was lent; and the judgement by
 -- them, once the record itself is judged. A slice comes in by its length; the state and the device record by their bytes.
 -- Assumes nothing.
 use Prim.Native.Nat.{ℕ}
 use mathlib.Core.Bool.{Bool, not, _&&_}
-use mathlib.Core.List.{List, [], _∷_}
+use mathlib.Core.List.{List, [], _∷_, _++_}
 use lib.Dec.{eqb, ltb}
 use lib.ListN.{length}
 use Rattle.machine.specs.declared.ZXMachine.{ZXMachine}
@@ -67,7 +67,7 @@ noVideoPage bus page = cause NoVideoPage (not (videoPage (bus .machine) page))
 abbrev pub above : ℕ → ℕ → Cause
 above last number = cause BadNumber (ltb last number)
 
--- start: "start: machine above 1", then the lengths of that machine's slices; "a start only writes [the record] and doesn't judge it"
+-- start: "start: machine above 1", then the lengths of that machine's slices; "a start only writes it and doesn't judge it", of the record
 abbrev pub startFits : ZXMachine → ℕ → ℕ → ℕ → ℕ → ℕ → Bool
 startFits m state ram a b border =
     eqb state recordLength && eqb ram (specsOf m .ram) && pictureFits a && pictureFits b && borderFits border
@@ -75,9 +75,14 @@ startFits m state ram a b border =
 abbrev pub startCauses : ℕ → ℕ → ℕ → ℕ → ℕ → ℕ → List Cause
 startCauses state ram a b border machine = cause BadMachine (ltb 1 machine) ∷ unless (startFits (machineOf machine) state ram a b border) ∷ []
 
+-- the start that takes the beam colour: "colour above 7 is 8, after 1 and 2" (02, Q-3)
+abbrev pub startColourCauses : ℕ → ℕ → ℕ → ℕ → ℕ → ℕ → ℕ → List Cause
+startColourCauses state ram a b border machine colour = startCauses state ram a b border machine ++ (above 7 colour ∷ [])
+
 -- accepted, with the record that it writes
-unfoldable pub judgeStart : ℕ → ℕ → ℕ → ℕ → ℕ → ℕ → Verdict
-judgeStart state ram a b border machine = judged (startCauses state ram a b border machine) (startRecord (machineOf machine))
+unfoldable pub judgeStart : ℕ → ℕ → ℕ → ℕ → ℕ → ℕ → ℕ → Verdict
+judgeStart state ram a b border machine colour =
+    judged (startColourCauses state ram a b border machine colour) (startRecord (machineOf machine) colour)
 
 -- the three waits
 abbrev pub waitCauses : ℕ → ℕ → ℕ → ℕ → ℕ → ℕ → Bus → List Cause

@@ -16,15 +16,16 @@ use Rattle.memory.specs.Screens.{screenLength, videoPage}
 use Rattle.ports.specs.Devices.{flagsOf, devicesLength}
 use Rattle.judgement.specs.Answers.{timedLength, numberLength}
 
--- a start's machine is one that there is, its slices have that machine's lengths, and this is the record to write
-pub record ReadyStart (state ram a b border machine : ℕ) (bus : Bus) : Type 0 where
+-- a start's machine is one that there is, its slices have that machine's lengths, its colour is one of the eight, and this is the record to write
+pub record ReadyStart (state ram a b border machine colour : ℕ) (bus : Bus) : Type 0 where
   pub known : machine ≤ 1
   pub stateIs : state ≡ recordLength
   pub ramIs : ram ≡ specsOf (machineOf machine) .ram
   pub aIs : a ≡ pictureLength
   pub bIs : b ≡ pictureLength
   pub borderIs : border ≡ borderLength
-  pub writes : bus ≡ startRecord (machineOf machine)
+  pub colourIn : colour ≤ 7
+  pub writes : bus ≡ startRecord (machineOf machine) colour
 
 -- the lent record is sound, and is this one
 pub record OnRecord (state : List ℕ) (bus : Bus) : Type 0 where

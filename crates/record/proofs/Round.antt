@@ -223,14 +223,14 @@ held-bytes s b h e =
     let d = held-decode s b e in
     ap recordBytes (sym (d .2)) ∙ encode-decode s (d .0) h (d .1)
 
--- "a record of zeros but for mark, version, machine and beam colour 7", byte by byte
-pub start-bytes : (m : ZXMachine)
-    → recordBytes (startRecord m) ≡ (85 ∷ 76 ∷ 66 ∷ 1 ∷ 0 ∷ machineNumber m ∷ []) ++ replicate 13 0 ++ (7 ∷ []) ++ replicate 3 0
-start-bytes m = refl
+-- "a record of zeros but for mark, version, machine and beam colour", byte by byte; with colour 0 all behind the machine is 0
+pub start-bytes : (m : ZXMachine) (colour : ℕ)
+    → recordBytes (startRecord m colour) ≡ (85 ∷ 76 ∷ 66 ∷ 1 ∷ 0 ∷ machineNumber m ∷ []) ++ replicate 13 0 ++ (colour ∷ []) ++ replicate 3 0
+start-bytes m colour = refl
 
 -- What a start writes is held as the start's record.
-pub start-held : (m : ZXMachine) → heldBy (recordBytes (startRecord m)) ≡ held.Sound (startRecord m)
-start-held m = held-encode (startRecord m) (start-sound m)
+pub start-held : (m : ZXMachine) (colour : ℕ) → colour < 8 → heldBy (recordBytes (startRecord m colour)) ≡ held.Sound (startRecord m colour)
+start-held m colour h = held-encode (startRecord m colour) (start-sound m colour h)
 
 -- ---- the bytes of a record that has moved on
 

@@ -1,6 +1,6 @@
 -- The test of a record's soundness says exactly the facts of specs/Sound, one for each clause of document 01.
 -- Assumes nothing.
-use Prim.Native.Nat.{ℕ, _/_, _≤_}
+use Prim.Native.Nat.{ℕ, _/_, _≤_, _<_}
 use mathlib.Core.Path.{_≡_, refl}
 use mathlib.Core.Bool.{Bool, true, false, not, _&&_, _||_, false≢true}
 use mathlib.Core.List.{List, [], _∷_}
@@ -88,8 +88,8 @@ facts-sound b f =
       allowed-if (b .machine) (b .paging) (f .unpaged),
     )
 
--- A start's record is sound, on each machine.
-pub start-sound : (m : ZXMachine) → soundBus (startRecord m) ≡ true
+-- A start's record is sound, on each machine and with each colour.
+pub start-sound : (m : ZXMachine) (colour : ℕ) → colour < 8 → soundBus (startRecord m colour) ≡ true
 unfolding soundBus blocksAt borderAt
-start-sound Sinclair48K = refl
-start-sound Sinclair128K = refl
+start-sound Sinclair48K colour h = rw (lt-ltb colour 8 h)
+start-sound Sinclair128K colour h = rw (lt-ltb colour 8 h)

@@ -163,9 +163,10 @@ soundBytes s = marked s && codesInRange s && soundBus (recordOf s)
 unfoldable pub heldBy : List ℕ → Held
 heldBy s = cond (eqb (length s) recordLength) (cond (soundBytes s) (Sound (recordOf s)) Unsound) WrongLength
 
--- "Start .. writes a record of zeros but for mark, version, machine and beam colour 7."
-abbrev pub startRecord : ZXMachine → Bus
-startRecord m =
+-- "Start .. writes a record of zeros but for mark, version, machine and beam colour"; "Start shall set the beam colour to 0", and "a second start ..
+-- takes the beam colour" (02, Q-3)
+abbrev pub startRecord : ZXMachine → ℕ → Bus
+startRecord m colour =
     record {
       machine = m;
       clock = 0;
@@ -174,7 +175,7 @@ startRecord m =
       painted = 0;
       paging = 0;
       reported = 0;
-      colour = 7;
+      colour = colour;
       blocked = false;
       pairs = 0;
     }

@@ -271,9 +271,9 @@ pub fn look(s: &[u8]) -> Held
     }
 }
 
-// The record that a start writes.
-pub fn start_record(machine: ZXMachine) -> Bus
-    ensures { λ r. ⌜ r ≡ startRecord machine ⌝ }
+// The record that a start writes: the beam has the start's colour, and the border that is reported is 0 all the same.
+pub fn start_record(machine: ZXMachine, colour: u8) -> Bus
+    ensures { λ r. ⌜ r ≡ startRecord machine colour ⌝ }
 {
     Bus {
         machine,
@@ -283,7 +283,7 @@ pub fn start_record(machine: ZXMachine) -> Bus
         painted: 0,
         paging: 0,
         reported: 0,
-        colour: 7,
+        colour,
         blocked: false,
         pairs: 0,
     }

@@ -1,56 +1,83 @@
--- BOTH DEMANDS, OF EVERY RUN OF THE C FUNCTIONS; and what a screen file that is read in mid-frame shows.
+-- BOTH DEMANDS, OF EVERY RUN OF THE C FUNCTIONS; where the start's colour shows; and what a screen file that is read in mid-frame shows.
 -- Assumes nothing.
-use Prim.Native.Nat.{ℕ, suc, _+_}
+use Prim.Native.Nat.{ℕ, suc, _+_, _<_}
 use mathlib.Core.List.{List, _∷_, _++_}
 use mathlib.Core.Path.{_≡_, sym, _∙_, subst}
-use lib.ListN.{length, getD}
+use lib.ListN.{length, getD, drop}
 use Rattle.machine.specs.Numbers.{specsOf}
+use Rattle.machine.specs.Limits.{borderLength}
 use Rattle.record.specs.Record.{machineOf}
-use Rattle.bus.specs.World.{started}
-use Rattle.contracts.specs.Timed.{Lent, lentBy, start}
-use Rattle.contracts.specs.Calls.{loadScreen, Made, Obeyed, NoSecondStart}
-use Rattle.contracts.proofs.Refusals.{start-left}
-use Rattle.rustzx.specs.Controller.{new, withRom}
+use Rattle.contracts.specs.Timed.{Lent, lentBy}
+use Rattle.contracts.specs.Calls.{Start, askedMachine, firstColour, loadScreen, Made, Obeyed, NoSecondStart}
+use Rattle.contracts.proofs.Starts.{start-left, first-small}
+use Rattle.rustzx.specs.Controller.{ZXController, new, withRom, setBeam}
 use Rattle.history.specs.Demand.{goneOn, history, Demand3}
+use Rattle.history.specs.Fresh.{Fresh}
+use Rattle.history.specs.First.{Unwritten, AllBehind}
 use Rattle.history.specs.Files.{FileStays, seenBefore, FileShows}
 use Rattle.history.proofs.Fresh.{started-fresh}
 use Rattle.history.proofs.Demand3.{demand3}
 use Rattle.history.proofs.Sentences.{noFrame, noShot}
 use Rattle.history.proofs.Files.{file-shows}
+use Rattle.history.proofs.First.{first-colour-shows}
 use Rattle.surface.specs.Chain.{AllSame, OneRom}
-use Rattle.surface.proofs.ChainSame.{from-start}
+use Rattle.surface.proofs.StartSame.{white-beam}
+use Rattle.surface.proofs.ChainSame.{from-any-start}
 use Rattle.runs.specs.Run.{Run, Begins}
-use Rattle.runs.specs.Demands.{reportedOver, Demands}
+use Rattle.runs.specs.Demands.{reportedOver, startedWorld, Demands}
 use Rattle.runs.proofs.Obeyed.{run-obeys, run-typed, run-begins}
 
-pub both-demands : (machine : ℕ) (before after : Lent) (cs : List Made) (rom : List ℕ) → Begins machine before after → Run cs after → NoSecondStart cs
-    → OneRom rom cs → length rom ≡ specsOf (machineOf machine) .rom → Demands machine rom cs after
-both-demands machine before after cs rom begins run first its long =
-    let b = run-begins machine before after begins in
+-- a run begins with a fresh machine
+begun-run : (how : Start) (before after : Lent) → Begins how before after
+    → Fresh (machineOf (askedMachine how)) (startedWorld how) × (after ≡ lentBy (machineOf (askedMachine how)) (startedWorld how))
+begun-run how before after begins =
+    let b = run-begins how before after begins in
+    (started-fresh (machineOf (askedMachine how)) (firstColour how) (first-small how before (b .0)), sym (b .1) ∙ start-left how before (b .0))
+
+pub both-demands : (how : Start) (before after : Lent) (cs : List Made) (rom : List ℕ) → Begins how before after → Run cs after → NoSecondStart cs
+    → OneRom rom cs → length rom ≡ specsOf (machineOf (askedMachine how)) .rom → Demands how rom cs after
+both-demands how before after cs rom begins run first its long =
+    let b = run-begins how before after begins in
     let obeyed = run-obeys cs after run in
     let typed = run-typed cs after run in
-    let s = from-start before machine rom long (b .0) in
-    let m = machineOf machine in
-    let whole : after ≡ lentBy m (started m) = sym (b .1) ∙ start-left before machine (b .0) in
+    let any = from-any-start how before rom long (b .0) in
+    let s = any .0 in
+    let beam : AllSame rom cs (withRom rom (setBeam (s .color) (new (s .machine)))) after =
+    subst (AllSame rom cs (withRom rom (setBeam (s .color) (new (s .machine))))) (b .1) (any .1 cs (subst (Obeyed cs) (sym (b .1)) obeyed) typed first its) in
+    let m = machineOf (askedMachine how) in
+    let w = startedWorld how in
+    let x = begun-run how before after begins in
     record {
-      rust = s .0 .machine;
-      named = s .0 .named;
-      demand2 = subst (AllSame rom cs (withRom rom (new (s .0 .machine)))) (b .1) (s .1 cs (subst (Obeyed cs) (sym (b .1)) obeyed) typed first its);
-      demand3 = subst (λ (l : Lent). Demand3 m (started m) cs (history m (started m) cs) (reportedOver cs l)) (sym whole) (demand3 m (started m) (started-fresh m) cs (subst (Obeyed cs) whole obeyed) typed first);
+      rust = s .machine;
+      named = s .named;
+      color = s .color;
+      coloured = s .coloured;
+      demand2 = λ e. subst (λ (c : ZXController). AllSame rom cs (withRom rom c) after) (white-beam (s .machine) (s .color) (s .coloured ∙ e)) beam;
+      demand2Beam = beam;
+      demand3 = subst (λ (l : Lent). Demand3 m w cs (history m w cs) (reportedOver cs l)) (sym (x .1))
+          (demand3 m w (x .0) cs (subst (Obeyed cs) (x .1) obeyed) typed first);
     }
+
+-- THE START'S COLOUR SHOWS UNTIL THE FIRST BORDER WRITE, in a run of the C functions: of completed frame i, 0 the newest, where the frames before it had no
+-- border write, each pixel of the border that no write of its own frame has reached. After `ulb_start` that is black.
+pub first-colour-in-run : (how : Start) (before after : Lent) (cs : List Made) → Begins how before after → Run cs after → NoSecondStart cs
+    → let h = history (machineOf (askedMachine how)) (startedWorld how) cs in
+    (i : ℕ) → i < length (h .log .done) → Unwritten (drop (suc i) (h .log .done)) → (pixel : ℕ) → pixel < borderLength → AllBehind pixel (getD (h .log .done) i noFrame .inks)
+    → getD (getD (h .shots) i noShot .border) pixel 0 ≡ firstColour how
+first-colour-in-run how before after cs begins run first i p u pixel q behind =
+    let x = begun-run how before after begins in
+    first-colour-shows (machineOf (askedMachine how)) (startedWorld how) (x .0) cs (subst (Obeyed cs) (x .1) (run-obeys cs after run)) (run-typed cs after run) first i p u pixel q behind
 
 -- A FILE READ MID-FRAME, in a run of the C functions: `ulb_load_scr` was accepted after the calls cs, and the calls ds left the file's bytes in place. Of
 -- each frame completed since, blocks reached before keep the old bytes, blocks reached after have the file's.
-pub file-shows-in-run : (machine : ℕ) (buffers after : Lent) (cs ds : List Made) (c : Made) → Begins machine buffers after → Run (cs ++ c ∷ ds) after
+pub file-shows-in-run : (how : Start) (buffers after : Lent) (cs ds : List Made) (c : Made) → Begins how buffers after → Run (cs ++ c ∷ ds) after
     → NoSecondStart (cs ++ c ∷ ds) → (file : List ℕ) (page : ℕ) → c .call ≡ loadScreen file page → c .result .code ≡ 0
-    → let m = machineOf machine in
-    let h = history m (started m) cs in
-    let all = history m (started m) (cs ++ c ∷ ds) in
+    → let m = machineOf (askedMachine how) in
+    let h = history m (startedWorld how) cs in
+    let all = history m (startedWorld how) (cs ++ c ∷ ds) in
     FileStays m page ds (goneOn m c h) → (j age : ℕ) → length (all .log .done) ≡ length (h .log .done) + suc (j + age)
     → FileShows file page (seenBefore age (h .log .current .sights)) (getD (all .shots) j noShot) (getD (all .log .done) j noFrame)
-file-shows-in-run machine buffers after cs ds c begins run first file page reads accepted stays j age e =
-    let b = run-begins machine buffers after begins in
-    let m = machineOf machine in
-    let whole : after ≡ lentBy m (started m) = sym (b .1) ∙ start-left buffers machine (b .0) in
-    file-shows m (started m) (started-fresh m) cs ds c (subst (Obeyed (cs ++ c ∷ ds)) whole (run-obeys (cs ++ c ∷ ds) after run)) (run-typed (cs ++ c ∷ ds) after run) first
+file-shows-in-run how buffers after cs ds c begins run first file page reads accepted stays j age e =
+    let x = begun-run how buffers after begins in
+    file-shows (machineOf (askedMachine how)) (startedWorld how) (x .0) cs ds c (subst (Obeyed (cs ++ c ∷ ds)) (x .1) (run-obeys (cs ++ c ∷ ds) after run)) (run-typed (cs ++ c ∷ ds) after run) first
     file page reads accepted stays j age e

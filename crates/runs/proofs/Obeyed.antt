@@ -5,9 +5,9 @@ use Prim.Native.Nat.{ℕ, _<_, _^_}
 use mathlib.Core.List.{List, [], _∷_}
 use mathlib.Core.Path.{_≡_, refl, sym, _∙_, ap}
 use contract.Lifetimes.{Lfts}
-use Rattle.contracts.specs.Timed.{Lent, lent, Outcome, outcome, start}
+use Rattle.contracts.specs.Timed.{Lent, lent, Outcome, outcome}
 use Rattle.contracts.specs.Plain.{told, Changed, Repaged}
-use Rattle.contracts.specs.Calls.{plain, mreq, noMreq, portIn, portOut, Helper, lineAddr, lineOf, columnOf, attrRowOf, attrColumnOf, colourBits, Question, byteRead, pagingRead, interruptAsked, framesAsked, pageAsked, blockAsked, shownAsked, stillAsked, fileAsked, help, Call, startAgain, takeTime, writeByte, writePaging, resetPassed, loadRam, loadScreen, ask, Result, result, withRam, withState, waited, helpedBy, replied, performed, lentOf, Made, buffersAfter, Obeyed}
+use Rattle.contracts.specs.Calls.{Start, plainStart, colourStart, startedBy, plain, mreq, noMreq, portIn, portOut, Helper, lineAddr, lineOf, columnOf, attrRowOf, attrColumnOf, colourBits, Question, byteRead, pagingRead, interruptAsked, framesAsked, pageAsked, blockAsked, shownAsked, stillAsked, fileAsked, help, Call, startAgain, takeTime, writeByte, writePaging, resetPassed, loadRam, loadScreen, ask, Result, result, withRam, withState, waited, helpedBy, replied, performed, lentOf, Made, buffersAfter, Obeyed}
 use Rattle.contracts.proofs.Ranges.{TypedQuestion, Typed, AllTyped}
 use Rattle.contracts.specs.Helpers.{helperCall}
 use Rattle.runs.specs.Run.{Slice, slice, Where, HelperAdmits, Replies, Steps, Run, Begins}
@@ -34,7 +34,8 @@ ask-range fileAsked at l out code filled s = tt
 ask-range (help h n) at l out code filled s = help-range h (s .0) n (slice at 0 out) code (slice at 0 filled) (s .1)
 
 in-range : (k : Call) (at : ℕ → Where) (l : Lent) (r : Result) → Steps k at l r → Typed k
-in-range (startAgain machine) at l r s = s .1 .0 .1 .1 .1 .1 .1 .0 .1
+in-range (startAgain (plainStart machine)) at l r s = s .1 .0 .1 .1 .1 .1 .1 .0 .1
+in-range (startAgain (colourStart machine colour)) at l r s = (s .1 .0 .1 .1 .1 .1 .1 .0 .1, s .1 .0 .1 .1 .1 .1 .1 .1 .0 .1)
 in-range (takeTime (plain n) answer) at l r s = s .1 .0 .1 .1 .1 .1 .1 .0 .1
 in-range (takeTime (mreq addr n) answer) at l r s = (s .1 .0 .1 .1 .1 .1 .1 .0 .1, s .1 .0 .1 .1 .1 .1 .1 .1 .0 .1)
 in-range (takeTime (noMreq addr n) answer) at l r s = (s .1 .0 .1 .1 .1 .1 .1 .0 .1, s .1 .0 .1 .1 .1 .1 .1 .1 .0 .1)
@@ -81,7 +82,8 @@ timed-is r l o e p =
 
 step-is : (k : Call) (at : ℕ → Where) (l : Lent) (r : Result) → Steps k at l r → r ≡ performed k l
 unfolding performed waited
-step-is (startAgain machine) at l r s = λ i. result (s .1 .1 i .code) (s .1 .1 i .slices) (s .2 i)
+step-is (startAgain (plainStart machine)) at l r s = λ i. result (s .1 .1 i .code) (s .1 .1 i .slices) (s .2 i)
+step-is (startAgain (colourStart machine colour)) at l r s = λ i. result (s .1 .1 i .code) (s .1 .1 i .slices) (s .2 i)
 step-is (takeTime (plain n) answer) at l r s = timed-is r l _ (s .2) (s .1 .1)
 step-is (takeTime (mreq addr n) answer) at l r s = timed-is r l _ (s .2) (s .1 .1)
 step-is (takeTime (noMreq addr n) answer) at l r s = timed-is r l _ (s .2) (s .1 .1)
@@ -111,8 +113,8 @@ run-typed [] l r = tt
 run-typed (c ∷ cs) l r = (in-range (c .call) (r .0 .0) (lentOf (c .lending) l) (c .result) (r .0 .1), run-typed cs (buffersAfter c l) (r .1))
 
 -- and it begins with what an accepted start leaves
-pub run-begins : (machine : ℕ) (before after : Lent) → Begins machine before after → (start before machine .code ≡ 0) × (start before machine .slices ≡ after)
+pub run-begins : (how : Start) (before after : Lent) → Begins how before after → (startedBy how before .code ≡ 0) × (startedBy how before .slices ≡ after)
 unfolding performed
-run-begins machine before after b =
-    let e = step-is (startAgain machine) (b .0) before (result 0 after []) (b .1) in
+run-begins how before after b =
+    let e = step-is (startAgain how) (b .0) before (result 0 after []) (b .1) in
     (ap (λ (r : Result). r .code) (sym e), ap (λ (r : Result). r .slices) (sym e))

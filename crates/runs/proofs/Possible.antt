@@ -21,7 +21,7 @@ use Rattle.judgement.specs.declared.Verdict.{Verdict}
 use Rattle.judgement.specs.declared.Verdict.the-variants.{Refused, Accepted}
 use Rattle.judgement.specs.Order.{NoneHolds}
 use Rattle.contracts.specs.Timed.{Lent, lentWorld, lent, outcome, timedCall, judgeWaitOf, judgePortOf, waitInternal, waitAt, readIo, writeIo}
-use Rattle.contracts.specs.Calls.{TimedCall, plain, mreq, noMreq, portIn, portOut, Helper, lineAddr, lineOf, columnOf, attrRowOf, attrColumnOf, colourBits, Question, byteRead, pagingRead, interruptAsked, framesAsked, pageAsked, blockAsked, shownAsked, stillAsked, fileAsked, help, Call, startAgain, takeTime, writeByte, writePaging, resetPassed, loadRam, loadScreen, ask, Result, waited, timedOps, helpedBy, replied, performed, timedCauses}
+use Rattle.contracts.specs.Calls.{plainStart, colourStart, TimedCall, plain, mreq, noMreq, portIn, portOut, Helper, lineAddr, lineOf, columnOf, attrRowOf, attrColumnOf, colourBits, Question, byteRead, pagingRead, interruptAsked, framesAsked, pageAsked, blockAsked, shownAsked, stillAsked, fileAsked, help, Call, startAgain, takeTime, writeByte, writePaging, resetPassed, loadRam, loadScreen, ask, Result, waited, timedOps, helpedBy, replied, performed, timedCauses}
 use Rattle.contracts.proofs.Ranges.{TypedQuestion, Typed}
 use Rattle.contracts.proofs.Acts.{timedValue}
 use Rattle.contracts.specs.Helpers.{helperCall}
@@ -100,7 +100,7 @@ TimedRoomy (portIn devices port) = Roomy devices
 TimedRoomy (portOut devices port value) = Roomy devices
 
 abbrev pub CallRoomy : Call → Type 0
-CallRoomy (startAgain machine) = Unit {0}
+CallRoomy (startAgain how) = Unit {0}
 CallRoomy (takeTime t answer) = TimedRoomy t × Roomy answer
 CallRoomy (writeByte addr value) = Unit {0}
 CallRoomy (writePaging value answer) = Roomy answer
@@ -157,7 +157,8 @@ module _ (at : ℕ → Where) (l : Lent) (r : LentRoomy l) where
   -- EVERY CALL HAS A STEP.
   pub goes-on : (k : Call) → Typed k → CallRoomy k → Steps k at l (performed k l)
   unfolding performed
-  goes-on (startAgain machine) typed own = (([], ([], ([], ([], ([], tt))))), ((room (l .state) (r .state), (room (l .ram) (r .ram), (room (l .a) (r .a), (room (l .b) (r .b), (room (l .border) (r .border), ((refl, typed), tt)))))), refl), refl)
+  goes-on (startAgain (plainStart machine)) typed own = (([], ([], ([], ([], ([], tt))))), ((room (l .state) (r .state), (room (l .ram) (r .ram), (room (l .a) (r .a), (room (l .b) (r .b), (room (l .border) (r .border), ((refl, typed), tt)))))), refl), refl)
+  goes-on (startAgain (colourStart machine colour)) typed own = (([], ([], ([], ([], ([], tt))))), ((room (l .state) (r .state), (room (l .ram) (r .ram), (room (l .a) (r .a), (room (l .b) (r .b), (room (l .border) (r .border), ((refl, typed .0), ((refl, typed .1), tt))))))), refl), refl)
   goes-on (takeTime t answer) typed own = timed-on t answer typed own
   goes-on (writeByte addr value) typed own = (([], ([], tt)), ((room (l .state) (r .state), (room (l .ram) (r .ram), ((refl, typed .0), ((refl, typed .1), tt)))), refl), refl, refl)
   goes-on (writePaging value answer) typed own = (([], ([], tt)), ((room (l .state) (r .state), ((refl, typed), (room answer own, tt))), refl), refl)

@@ -1,4 +1,4 @@
--- A RUN OF THE C FUNCTIONS: a start, and then any calls. What a call may return and leave is said by the contract of the function that it calls, and by
+-- A RUN OF THE C FUNCTIONS: a start, either of the two, and then any calls. What a call may return and leave is said by the contract of the function that it calls, and by
 -- nothing else: `ulb-start.Post` is the `ensures` clause of `ulb_start` itself, which the check has proved of its code, at the arguments, the number
 -- returned and the parameters at exit; `kinds-start.ps` are the function's parameters with their types; and so for each function. No equation
 -- and no range is written out again here, so that none has to be held against the source by reading.
@@ -11,9 +11,11 @@ use denote.Ref.{RefT}
 use denote.Triple.Clauses.{AtExit}
 use borrow.Fn.Kinds.{PK, RK, Out, Dens, GoodsP, resT, endedOf}
 use Rattle.contracts.specs.Timed.{Lent}
-use Rattle.contracts.specs.Calls.{plain, mreq, noMreq, portIn, portOut, Helper, lineAddr, lineOf, columnOf, attrRowOf, attrColumnOf, colourBits, Question, byteRead, pagingRead, interruptAsked, framesAsked, pageAsked, blockAsked, shownAsked, stillAsked, fileAsked, help, Call, startAgain, takeTime, writeByte, writePaging, resetPassed, loadRam, loadScreen, ask, Result, result, withRam, withState, lentOf, Made, buffersAfter}
+use Rattle.contracts.specs.Calls.{Start, plainStart, colourStart, plain, mreq, noMreq, portIn, portOut, Helper, lineAddr, lineOf, columnOf, attrRowOf, attrColumnOf, colourBits, Question, byteRead, pagingRead, interruptAsked, framesAsked, pageAsked, blockAsked, shownAsked, stillAsked, fileAsked, help, Call, startAgain, takeTime, writeByte, writePaging, resetPassed, loadRam, loadScreen, ask, Result, result, withRam, withState, lentOf, Made, buffersAfter}
 use Rattle.ulb_start.proofs.ulb_start.Reads as ulb-start
 use Rattle.ulb_start.proofs.ulb_start.Kinds as kinds-start
+use Rattle.ulb_start.proofs.ulb_start_colour.Reads as ulb-start-colour
+use Rattle.ulb_start.proofs.ulb_start_colour.Kinds as kinds-start-colour
 use Rattle.ulb_wait_internal.proofs.ulb_wait_internal.Reads as ulb-wait-internal
 use Rattle.ulb_wait_internal.proofs.ulb_wait_internal.Kinds as kinds-wait-internal
 use Rattle.ulb_wait_mreq.proofs.ulb_wait_mreq.Reads as ulb-wait-mreq
@@ -151,10 +153,15 @@ Replies (help h n) at l out code filled = (κs : Lfts 1) × HelperAdmits h κs n
 
 -- ANY CALL, on what is lent of the machine. A slice that is lent to be read comes back as it was; so do those that are not lent.
 abbrev pub Steps : Call → (at : ℕ → Where) → Lent → Result → Type 0
-Steps (startAgain machine) at l r =
+Steps (startAgain (plainStart machine)) at l r =
     (κs : Lfts 5) × Admits 5 kinds-start.ps kinds-start.r ulb-start.Post κs
     (five at l (machine & tt)) (r .code)
     (five at (r .slices) (machine & tt))
+    × (r .filled ≡ [])
+Steps (startAgain (colourStart machine colour)) at l r =
+    (κs : Lfts 5) × Admits 5 kinds-start-colour.ps kinds-start-colour.r ulb-start-colour.Post κs
+    (five at l (machine & colour & tt)) (r .code)
+    (five at (r .slices) (machine & colour & tt))
     × (r .filled ≡ [])
 Steps (takeTime (plain n) answer) at l r =
     (κs : Lfts 6) × Admits 6 kinds-wait-internal.ps kinds-wait-internal.r ulb-wait-internal.Post κs
@@ -218,5 +225,5 @@ Run [] l = Unit {0}
 Run (c ∷ cs) l = ((at : ℕ → Where) × Steps (c .call) at (lentOf (c .lending) l) (c .result)) × Run cs (buffersAfter c l)
 
 -- a start that returned 0 and left the slices `after`
-abbrev pub Begins : ℕ → Lent → Lent → Type 0
-Begins machine before after = (at : ℕ → Where) × Steps (startAgain machine) at before (result 0 after [])
+abbrev pub Begins : Start → Lent → Lent → Type 0
+Begins how before after = (at : ℕ → Where) × Steps (startAgain how) at before (result 0 after [])

@@ -274,7 +274,7 @@ calls-agree m rom (k ∷ ks) c w r s a =
       holds = (ap₂ (λ (x : List ℕ) (y : List (List ℕ)). x ∷ y) (one .holds .0) (rest .holds .0), rest .holds .1);
     }
 
--- FROM THE START, with the ROM that the host loads, on either machine.
-pub demand-2 : (m : ZXMachine) (rom : List ℕ) → length rom ≡ specsOf (ourMachine m) .rom → (ks : List Call) → AllAccepted (ourMachine m) ks (started (ourMachine m))
-    → Ends (allPerformed ks (withRom rom (new m))) (λ s. (s .answers ≡ allAnswers (ourMachine m) rom ks (started (ourMachine m))) × Related m rom (s .controller) (afterAll (ourMachine m) ks (started (ourMachine m))))
-demand-2 m rom long ks a = calls-agree m rom ks (withRom rom (new m)) (started (ourMachine m)) (start-related m rom long) (started-sound (ourMachine m)) a
+-- FROM THE START with colour 7, with the ROM that the host loads, on either machine.
+pub demand-2 : (m : ZXMachine) (rom : List ℕ) → length rom ≡ specsOf (ourMachine m) .rom → (ks : List Call) → AllAccepted (ourMachine m) ks (started (ourMachine m) 7)
+    → Ends (allPerformed ks (withRom rom (new m))) (λ s. (s .answers ≡ allAnswers (ourMachine m) rom ks (started (ourMachine m) 7)) × Related m rom (s .controller) (afterAll (ourMachine m) ks (started (ourMachine m) 7)))
+demand-2 m rom long ks a = calls-agree m rom ks (withRom rom (new m)) (started (ourMachine m) 7) (start-related m rom long) (started-sound (ourMachine m) 7 (omega arith)) a

@@ -1,6 +1,7 @@
--- The Rust's new controller, with the ROM that the host loads, and the world that a start leaves are related.
+-- The Rust's new controller, with the ROM that the host loads, and the world that a start with colour 7 leaves are related; and so are the controller
+-- whose border was then given another colour, before any clock, and the world of the start with that colour.
 -- Assumes nothing.
-use mathlib.Core.Path.{_≡_, refl, sym, ap, _∙_}
+use mathlib.Core.Path.{_≡_, refl, sym, ap, _∙_, subst}
 use mathlib.Core.List.{List, map}
 use Prim.Native.Nat.{ℕ, _+_, _*_, _/_, _%_, _<_, _≤_}
 use native.Mathlib.Omega.{arith}
@@ -13,12 +14,15 @@ use Rattle.memory.specs.Paging.{memoryMap, shownPage}
 use Rattle.memory.specs.Memory.{ramPage}
 use Rattle.bus.specs.World.{clearRam, clearPicture, clearBorder, started}
 use Rattle.bus.proofs.Kept.{started-sound}
+use Rattle.rustzx.specs.Panics.{each}
 use Rattle.rustzx.specs.Machine.{ZXMachine, Sinclair48K, Sinclair128K}
 use Rattle.rustzx.specs.Memory.{zeros, newMemory}
 use Rattle.rustzx.specs.Screen as screen
 use Rattle.rustzx.specs.Screen.{blackAttribute, newBank}
+use Rattle.rustzx.specs.Colors.{ZXColor, Black, Blue, Red, Purple, Green, Cyan, Yellow, White, colorByte}
 use Rattle.rustzx.specs.Border as border
-use Rattle.rustzx.specs.Controller.{paged, firstBank, new, withRom}
+use Rattle.rustzx.specs.Border.{setBorder, nextBorderPixel}
+use Rattle.rustzx.specs.Controller.{ZXController, paged, firstBank, new, withRom, setBorderColor, setBeam}
 use Rattle.rustzx.specs.Related.{ourMachine, ourPage, ourAttribute, Mirrors, Mirrored, activeOf, SameBorder, pagingOpen, Related}
 use Rattle.rustzx.proofs.Steps.{sound-in-step}
 
@@ -64,14 +68,28 @@ same-borders : border.newBuffer ≡ clearBorder
 unfolding border.newBuffer clearBorder
 same-borders = refl
 
-new-border : SameBorder border.newBorder (started (ourMachine Sinclair48K) .edge)
-new-border = record { pixels = same-borders; beam = refl; colour = refl; blocked = refl; unchanged = λ e. refl }
+-- the border of a controller that has just begun, whatever the colour of its beam
+beam-set : (m : ZXMachine) (color : ZXColor) → SameBorder (setBeam color (new m) .border) (started (ourMachine m) (colorByte color) .edge)
+unfolding setBorder nextBorderPixel each
+beam-set Sinclair48K color = record { pixels = same-borders; beam = refl; colour = refl; blocked = refl; unchanged = λ e. refl }
+beam-set Sinclair128K color = record { pixels = same-borders; beam = refl; colour = refl; blocked = refl; unchanged = λ e. refl }
+
+-- a colour's byte is below 8
+byte-small : (color : ZXColor) → colorByte color < 8
+byte-small Black = omega arith
+byte-small Blue = omega arith
+byte-small Red = omega arith
+byte-small Purple = omega arith
+byte-small Green = omega arith
+byte-small Cyan = omega arith
+byte-small Yellow = omega arith
+byte-small White = omega arith
 
 -- the start of either machine, from what only its own case decides
-start-by : (m : ZXMachine) (rom : List ℕ) → length rom ≡ specsOf (ourMachine m) .rom → newMemory m .ram ≡ clearRam (ourMachine m) → map ourPage (newMemory m .map) ≡ memoryMap (ourMachine m) 0
+start-by : (m : ZXMachine) (color : ZXColor) (rom : List ℕ) → length rom ≡ specsOf (ourMachine m) .rom → newMemory m .ram ≡ clearRam (ourMachine m) → map ourPage (newMemory m .map) ≡ memoryMap (ourMachine m) 0
     → 0 ≡ activeOf m 0 → paged m ≡ pagingOpen m 0 → firstBank m ≡ shownPage (ourMachine m) 0 → Mirrored m newBank newBank (clearRam (ourMachine m))
-    → Related m rom (withRom rom (new m)) (started (ourMachine m))
-start-by m rom long ram pages active enabled bank mirrored =
+    → Related m rom (withRom rom (setBeam color (new m))) (started (ourMachine m) (colorByte color))
+start-by m color rom long ram pages active enabled bank mirrored =
     record {
       machine = refl;
       memory = record { rom = refl; ram = ram; pages = pages };
@@ -85,7 +103,7 @@ start-by m rom long ram pages active enabled bank mirrored =
         active = active;
         mirrored = mirrored;
       };
-      border = new-border;
+      border = beam-set m color;
       reported = refl;
       clock = refl;
       passed = refl;
@@ -94,13 +112,29 @@ start-by m rom long ram pages active enabled bank mirrored =
       port = refl;
       ramLong = ram-long m;
       romLong = long;
-      inStep = sound-in-step (ourMachine m) (started (ourMachine m)) (started-sound (ourMachine m));
+      inStep = sound-in-step (ourMachine m) (started (ourMachine m) (colorByte color)) (started-sound (ourMachine m) (colorByte color) (byte-small color));
     }
 
--- START.
-pub start-related : (m : ZXMachine) (rom : List ℕ) → length rom ≡ specsOf (ourMachine m) .rom → Related m rom (withRom rom (new m)) (started (ourMachine m))
-start-related Sinclair48K rom long =
-    start-by Sinclair48K rom long (zeros-clear Sinclair48K 49152 refl) refl refl refl refl (new-mirrors Sinclair48K 0 (omega arith))
-start-related Sinclair128K rom long =
-    start-by Sinclair128K rom long (zeros-clear Sinclair128K 131072 refl) refl refl refl refl
+-- A START WITH A COLOUR, on either machine.
+pub beam-related : (m : ZXMachine) (color : ZXColor) (rom : List ℕ) → length rom ≡ specsOf (ourMachine m) .rom
+    → Related m rom (withRom rom (setBeam color (new m))) (started (ourMachine m) (colorByte color))
+beam-related Sinclair48K color rom long =
+    start-by Sinclair48K color rom long (zeros-clear Sinclair48K 49152 refl) refl refl refl refl (new-mirrors Sinclair48K 0 (omega arith))
+beam-related Sinclair128K color rom long =
+    start-by Sinclair128K color rom long (zeros-clear Sinclair128K 131072 refl) refl refl refl refl
     (new-mirrors Sinclair128K 5 (omega arith), new-mirrors Sinclair128K 7 (omega arith))
+
+-- The Rust's new controller is white: giving its beam that colour changes nothing.
+pub white-is-new : (m : ZXMachine) → setBeam White (new m) ≡ new m
+unfolding setBorder nextBorderPixel each
+white-is-new Sinclair48K = refl
+white-is-new Sinclair128K = refl
+
+-- And one that is black is what its own set_border_color leaves, called before any clock.
+pub black-is-set : (m : ZXMachine) → setBeam Black (new m) ≡ setBorderColor 0 Black (new m)
+black-is-set m = refl
+
+-- START: "Equality with the Rust's start is claimed for the call with colour 7" (02, Q-3).
+pub start-related : (m : ZXMachine) (rom : List ℕ) → length rom ≡ specsOf (ourMachine m) .rom → Related m rom (withRom rom (new m)) (started (ourMachine m) 7)
+start-related m rom long =
+    subst (λ (c : ZXController). Related m rom (withRom rom c) (started (ourMachine m) 7)) (white-is-new m) (beam-related m White rom long)

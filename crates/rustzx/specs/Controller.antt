@@ -177,6 +177,10 @@ write7ffd val c =
 abbrev pub setBorderColor : ℕ → ZXColor → ZXController → ZXController
 setBorderColor clocks color c = withBorder (setBorder (c .machine) clocks color (c .border)) color c
 
+-- border.set_border alone, at the controller's own clock: the beam has the colour, and what is reported stays
+abbrev pub setBeam : ZXColor → ZXController → ZXController
+setBeam color c = withBorder (setBorder (c .machine) (c .frameClocks) color (c .border)) (c .borderColor) c
+
 -- fn read_internal, fn write_internal
 abbrev pub readInternal : ℕ → ZXController → ℕ
 readInternal addr c = read (c .memory) addr

@@ -25,28 +25,28 @@ use Rattle.judgement.specs.Judges.{romFits}
 use Rattle.judgement.specs.Answers.{numberLength}
 use Rattle.judgement.specs.Order.{NoneHolds, Numbered}
 use Rattle.judgement.proofs.Order.{state-ordered, wait-ordered, port-ordered, told-ordered, read-ordered, write-ordered, load-ordered, still-ordered, save-scr-ordered, load-scr-ordered}
-use Rattle.contracts.specs.Timed.{Lent, lentBy, Outcome, lentWorld, start}
+use Rattle.contracts.specs.Timed.{Lent, lentBy, Outcome, lentWorld, startColour}
 use Rattle.contracts.specs.Plain.{Told, Changed}
 use Rattle.contracts.specs.Helpers.{helperCall}
-use Rattle.contracts.specs.Calls.{TimedCall, plain, mreq, noMreq, portIn, portOut, Helper, lineAddr, lineOf, columnOf, attrRowOf, attrColumnOf, colourBits, Question, byteRead, pagingRead, interruptAsked, framesAsked, pageAsked, blockAsked, shownAsked, stillAsked, fileAsked, help, Call, startAgain, takeTime, writeByte, writePaging, resetPassed, loadRam, loadScreen, ask, Result, result, withRam, withState, waited, opsOf, helpedBy, replied, performed, timedCauses, questionCauses, causesOf, refusedFilled, lentOf, handedBack, Made, buffersAfter, Obeyed, NotStarted, NoSecondStart}
+use Rattle.contracts.specs.Calls.{Start, colourStart, askedMachine, firstColour, startedBy, TimedCall, plain, mreq, noMreq, portIn, portOut, Helper, lineAddr, lineOf, columnOf, attrRowOf, attrColumnOf, colourBits, Question, byteRead, pagingRead, interruptAsked, framesAsked, pageAsked, blockAsked, shownAsked, stillAsked, fileAsked, help, Call, startAgain, takeTime, writeByte, writePaging, resetPassed, loadRam, loadScreen, ask, Result, result, withRam, withState, waited, opsOf, helpedBy, replied, performed, timedCauses, questionCauses, causesOf, refusedFilled, lentOf, handedBack, Made, buffersAfter, Obeyed, NotStarted, NoSecondStart}
 use Rattle.contracts.proofs.Ranges.{Typed, AllTyped}
 use Rattle.contracts.proofs.Still.{still-of}
 use Rattle.contracts.proofs.Calls.{call-numbered, call-refused}
-use Rattle.contracts.proofs.Refusals.{start-left}
+use Rattle.contracts.proofs.Starts.{start-left, first-small}
 use Rattle.contracts.proofs.Acts.{sized-kept, acted}
 use Rattle.contracts.proofs.AsWhole.{as-whole, as-refused}
 use Rattle.rustzx.specs.Panics.{OrPanic, done, panics}
 use Rattle.rustzx.specs.Controller as rust
-use Rattle.rustzx.specs.Controller.{ZXController, new, withRom}
+use Rattle.rustzx.specs.Controller.{ZXController, new, withRom, setBeam}
 use Rattle.rustzx.specs.Related.{ourMachine, Related}
 use Rattle.rustzx.specs.Memory.{ramPageData, blockData}
 use Rattle.rustzx.specs.Calls as rustCalls
 use Rattle.rustzx.specs.Calls.{Given}
-use Rattle.surface.specs.Same.{SameLent, SameStart, SameTimed, SameHelp}
+use Rattle.surface.specs.Same.{SameLent, SameStart, SameBeam, SameTimed, SameHelp}
 use Rattle.surface.specs.Chain.{rustTimed, ValueOf, rustHelper, LeadsTo, SameReply, SameAnswer, SameCall, leftOn, AllSame, OwnRomAsked, OwnRom, OneRom}
 use Rattle.surface.proofs.OnMachine.{own}
 use Rattle.surface.proofs.Judged.{settled, rom-long}
-use Rattle.surface.proofs.StartSame.{start-same}
+use Rattle.surface.proofs.StartSame.{beam-same, white-beam, white-same}
 use Rattle.surface.proofs.TimedSame.{wait-same, mreq-same, no-mreq-same, read-same, write-same}
 use Rattle.surface.proofs.PlainSame.{read-internal-same, read-7ffd-same, int-active-same, frames-count-same, write-internal-same, load-page-same, load-scr-same, save-scr-same, reset-same, write-7ffd-same}
 use Rattle.surface.proofs.PartSame.{ram-page-told-same, block-told-same, shown-told-same}
@@ -173,7 +173,7 @@ module _ (rom : List ℕ) (c : ZXController) (l : Lent) (s : SameLent rom c l) w
   -- ---- ONE CALL, accepted, on the buffers that hold the Rust's machine.
   pub one-call : (k : Call) → NotStarted k 0 → Typed k → OwnRom rom k → NoneHolds (causesOf k l) → SameCall rom k c l (performed k l)
   unfolding performed
-  one-call (startAgain machine) first typed its h = absurd (first refl)
+  one-call (startAgain how) first typed its h = absurd (first refl)
   one-call (takeTime t answer) first typed its h =
       let x = timed-same t answer typed h in
       record { next = x .given .controller; answer = (x, ended _ (x .given) (x .ends)); leaves = timed-call _ _ _ x }
@@ -246,17 +246,31 @@ module _ (rom : List ℕ) (m : ZXMachine) where
             ),
       )
 
--- A START, AND THEN ANY CALLS.
-pub from-start : (l : Lent) (number : ℕ) (rom : List ℕ) → length rom ≡ specsOf (machineOf number) .rom → start l number .code ≡ 0
-    → (s : SameStart number rom (start l number)) × ((cs : List Made) → Obeyed cs (start l number .slices) → AllTyped cs → NoSecondStart cs → OneRom rom cs
-    → AllSame rom cs (withRom rom (new (s .machine))) (start l number .slices))
-from-start l number rom long z =
-    let s = start-same l number rom long z in
-    let m = machineOf number in
-    let e = start-left l number z in (
+-- EITHER START, AND THEN ANY CALLS: those of the Rust, once its new controller's beam has the start's colour.
+pub from-any-start : (how : Start) (l : Lent) (rom : List ℕ) → length rom ≡ specsOf (machineOf (askedMachine how)) .rom → startedBy how l .code ≡ 0
+    → (s : SameBeam (askedMachine how) (firstColour how) rom (startedBy how l)) × ((cs : List Made) → Obeyed cs (startedBy how l .slices) → AllTyped cs
+    → NoSecondStart cs → OneRom rom cs → AllSame rom cs (withRom rom (setBeam (s .color) (new (s .machine)))) (startedBy how l .slices))
+from-any-start how l rom long z =
+    let s = beam-same how l rom long z in
+    let m = machineOf (askedMachine how) in
+    let colour = firstColour how in
+    let c = withRom rom (setBeam (s .color) (new (s .machine))) in
+    let e = start-left how l z in (
       s,
       λ cs obeyed typed first its.
-          subst (AllSame rom cs (withRom rom (new (s .machine)))) (sym e)
-          (all-same rom m cs (started m) (started-sound m) (started-sized m) (subst (Obeyed cs) e obeyed) typed first its (withRom rom (new (s .machine)))
-          (subst (SameLent rom (withRom rom (new (s .machine)))) e (s .leaves))),
+          subst (AllSame rom cs c) (sym e)
+          (all-same rom m cs (started m colour) (started-sound m colour (first-small how l z)) (started-sized m colour) (subst (Obeyed cs) e obeyed) typed first its c
+          (subst (SameLent rom c) e (s .leaves))),
+    )
+
+-- A START WITH COLOUR 7, AND THEN ANY CALLS: those of the Rust from its new controller on.
+pub from-start : (l : Lent) (number : ℕ) (rom : List ℕ) → length rom ≡ specsOf (machineOf number) .rom → startColour l number 7 .code ≡ 0
+    → (s : SameStart number rom (startColour l number 7)) × ((cs : List Made) → Obeyed cs (startColour l number 7 .slices) → AllTyped cs
+    → NoSecondStart cs → OneRom rom cs → AllSame rom cs (withRom rom (new (s .machine))) (startColour l number 7 .slices))
+from-start l number rom long z =
+    let x = startColour l number 7 in
+    let any = from-any-start (colourStart number 7) l rom long z in (
+      white-same number rom x (any .0),
+      λ cs obeyed typed first its.
+          subst (λ (c : ZXController). AllSame rom cs (withRom rom c) (x .slices)) (white-beam (any .0 .machine) (any .0 .color) (any .0 .coloured)) (any .1 cs obeyed typed first its),
     )

@@ -78,7 +78,7 @@ SameReply rom (help h n) c next l t = SameHelp (rustHelper h n) t × (next ≡ c
 
 -- what the Rust says of an accepted call on the buffers l: r has the number, the buffers afterwards and the answer. A second start is none.
 abbrev pub SameAnswer : List ℕ → Call → ZXController → ZXController → Lent → Result → Type 0
-SameAnswer rom (startAgain machine) c next l r = ⊥
+SameAnswer rom (startAgain how) c next l r = ⊥
 SameAnswer rom (takeTime t answer) c next l r =
     SameTimed rom (rustTimed t) (ValueOf t) c (outcome (r .code) (r .slices) (r .filled)) × LeadsTo (rustTimed t) c next
 SameAnswer rom (writeByte addr value) c next l r = LeadsTo (rust.writeInternal addr value) c next
@@ -126,7 +126,7 @@ OwnRomAsked rom fileAsked = Unit {0}
 OwnRomAsked rom (help h n) = Unit {0}
 
 abbrev pub OwnRom : List ℕ → Call → Type 0
-OwnRom rom (startAgain machine) = Unit {0}
+OwnRom rom (startAgain how) = Unit {0}
 OwnRom rom (takeTime t answer) = Unit {0}
 OwnRom rom (writeByte addr value) = Unit {0}
 OwnRom rom (writePaging value answer) = Unit {0}

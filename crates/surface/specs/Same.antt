@@ -16,8 +16,9 @@ use Rattle.judgement.specs.Answers.{timedAnswer, numberAnswer}
 use Rattle.contracts.specs.Timed.{Lent, Outcome, lentBy, lentWorld, Started}
 use Rattle.contracts.specs.Plain.{Told}
 use Rattle.rustzx.specs.Panics.{OrPanic, done, panics}
-use Rattle.rustzx.specs.Controller.{ZXController, new, withRom}
+use Rattle.rustzx.specs.Controller.{ZXController, new, withRom, setBeam}
 use Rattle.rustzx.specs.Machine.{ZXMachine}
+use Rattle.rustzx.specs.Colors.{ZXColor, colorByte}
 use Rattle.rustzx.specs.Related.{ourMachine, Related}
 use Rattle.rustzx.specs.Calls.{Call, Given, performed, TimedByRust}
 
@@ -29,12 +30,25 @@ pub record SameLent (rom : List ℕ) (c : ZXController) (l : Lent) : Type 0 wher
   pub machine : ourMachine (c .machine) ≡ bus .machine
   pub related : Related (c .machine) rom c (lentWorld bus l)
 
--- an accepted start: its number names a machine of the Rust, "machine (0 = 48K, 1 = 128K)", and the slices hold the Rust's new controller of that
--- machine, with the ROM that the host loads
+-- a start's number names a machine of the Rust: "machine (0 = 48K, 1 = 128K)"
+abbrev pub Names : ℕ → ZXMachine → Type 0
+Names number machine = machineNumber (ourMachine machine) ≡ number
+
+-- an accepted start with colour 7, for which "equality with the Rust's start is claimed" (02, Q-3): the slices hold the Rust's new controller of the
+-- machine that it names, with the ROM that the host loads
 pub record SameStart (number : ℕ) (rom : List ℕ) (s : Started) : Type 0 where
   pub machine : ZXMachine
-  pub named : machineNumber (ourMachine machine) ≡ number
+  pub named : Names number machine
   pub leaves : SameLent rom (withRom rom (new machine)) (s .slices)
+
+-- an accepted start with any colour, of which the Rust has none: what it leaves is the Rust's new controller whose beam was given that colour, before any
+-- clock, by its own set_border
+pub record SameBeam (number colour : ℕ) (rom : List ℕ) (s : Started) : Type 0 where
+  pub machine : ZXMachine
+  pub named : Names number machine
+  pub color : ZXColor
+  pub coloured : colorByte color ≡ colour
+  pub leaves : SameLent rom (withRom rom (setBeam color (new machine))) (s .slices)
 
 -- "value or code (0 for a wait)": a read's value is the Rust's answer, and a write's code the code of whom the Rust reached
 abbrev pub NoValue : Given → ℕ → Type 0

@@ -15,7 +15,7 @@ use Rattle.judgement.specs.declared.Verdict.{Verdict}
 use Rattle.judgement.specs.declared.Verdict.the-variants.{Refused, Accepted}
 use Rattle.judgement.specs.Refusals.{refusalNumber}
 use Rattle.judgement.proofs.Accepted.{ready-start}
-use Rattle.contracts.specs.Timed.{Lent, lent, startLeaves, begun, judgeStartOf, start}
+use Rattle.contracts.specs.Timed.{Lent, lent, startLeaves, begun, judgeStartOf, startColour}
 
 -- zeros as many as the start asks for
 ram-cleared : (m : ZXMachine) (n : ℕ) → n ≡ specsOf m .ram → replicate n 0 ≡ clearRam m
@@ -30,17 +30,17 @@ border-cleared : (n : ℕ) → n ≡ borderLength → replicate n 0 ≡ clearBor
 unfolding clearBorder
 border-cleared n e = ap (λ (k : ℕ). replicate k 0) e
 
-module _ (l : Lent) (machine : ℕ) (v : Verdict) (judged : v ≡ judgeStartOf l machine) where
-  pub start-refused : (e : Refusal) (r : ℕ) → v ≡ Refused e → r ≡ refusalNumber e → startLeaves r l ≡ start l machine
-  unfolding start begun
+module _ (l : Lent) (machine colour : ℕ) (v : Verdict) (judged : v ≡ judgeStartOf l machine colour) where
+  pub start-refused : (e : Refusal) (r : ℕ) → v ≡ Refused e → r ≡ refusalNumber e → startLeaves r l ≡ startColour l machine colour
+  unfolding startColour begun
   start-refused e r p q = rw (← judged, p, q)
 
   pub start-accepted : (state ram a b border : List ℕ) (bus : Bus) → v ≡ Accepted bus → state ≡ recordBytes bus
       → ram ≡ replicate (length (l .ram)) 0 → a ≡ replicate (length (l .a)) 0 → b ≡ replicate (length (l .b)) 0 → border ≡ replicate (length (l .border)) 0
-      → startLeaves 0 (lent state ram a b border) ≡ start l machine
-  unfolding start begun
+      → startLeaves 0 (lent state ram a b border) ≡ startColour l machine colour
+  unfolding startColour begun
   start-accepted state ram a b border bus p e er ea eb ed =
-      let n = ready-start (length (l .state)) (length (l .ram)) (length (l .a)) (length (l .b)) (length (l .border)) machine bus (rw (← judged, p)) in
+      let n = ready-start (length (l .state)) (length (l .ram)) (length (l .a)) (length (l .b)) (length (l .border)) machine colour bus (rw (← judged, p)) in
       let cr = er ∙ ram-cleared (machineOf machine) (length (l .ram)) (n .ramIs) in
       let ca = ea ∙ picture-cleared (length (l .a)) (n .aIs) in
       let cb = eb ∙ picture-cleared (length (l .b)) (n .bIs) in

@@ -20,18 +20,23 @@ machine-from-requires c κs = search needs
 start-fits-requires : tie.Need-start-fits-requires
 start-fits-requires c κs = search needs
 
-start-record-requires : tie.Need-start-record-requires
-start-record-requires c κs = search needs
-
 returns-2 : tie.Need-returns-2
 unfolding judgeStart judged
-returns-2 c =
-    rw (le-ltb 1 (c .before .before .before .before .before .args .machine) (c .before .before .before .before .if1 .left), ← c .before .before .before .machine-from .ensures, ← c .before .before .start-fits .ensures, c .before .if2 .taken, c .start-record .ensures)
+returns-2 c = rw (le-ltb 1 (c .before .before .before .before .args .machine) (c .before .before .before .if1 .left), ← c .before .before .machine-from .ensures, ← c .before .start-fits .ensures, c .if2 .taken)
 
 returns-3 : tie.Need-returns-3
 unfolding judgeStart judged
-returns-3 c =
-    rw (le-ltb 1 (c .before .before .before .before .args .machine) (c .before .before .before .if1 .left), ← c .before .before .machine-from .ensures, ← c .before .start-fits .ensures, c .if2 .left)
+returns-3 c = rw (le-ltb 1 (c .before .before .before .before .before .args .machine) (c .before .before .before .before .if1 .left), ← c .before .before .before .machine-from .ensures, ← c .before .before .start-fits .ensures, c .before .if2 .left, lt-ltb 7 (c .before .before .before .before .before .args .colour) (c .if3 .taken))
+
+cast-start-record : tie.Need-cast-start-record
+cast-start-record c = search needs
+
+start-record-requires : tie.Need-start-record-requires
+start-record-requires c κs = search needs
+
+returns-4 : tie.Need-returns-4
+unfolding judgeStart judged
+returns-4 c = rw (le-ltb 1 (c .before .before .before .before .before .before .args .machine) (c .before .before .before .before .before .if1 .left), ← c .before .before .before .before .machine-from .ensures, ← c .before .before .before .start-fits .ensures, c .before .before .if2 .left, le-ltb 7 (c .before .before .before .before .before .before .args .colour) (c .before .if3 .left), c .start-record .ensures)
 
 pub judge-start-spec : {M : Type 1} → statement M
 judge-start-spec =
@@ -41,6 +46,8 @@ judge-start-spec =
     cast-machine-from
     machine-from-requires
     start-fits-requires
-    start-record-requires
     returns-2
-    returns-3)
+    returns-3
+    cast-start-record
+    start-record-requires
+    returns-4)

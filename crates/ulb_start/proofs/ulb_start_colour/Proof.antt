@@ -6,8 +6,8 @@ use Rattle.judgement.proofs.Accepted.{ready-start}
 use Rattle.contracts.specs.Timed.{lent}
 use Rattle.ulb_start.proofs.Begun.{start-refused, start-accepted}
 use borrow.Author.Needs.{needs}
-use Rattle.ulb_start.proofs.ulb_start.Statement.{statement}
-use Rattle.ulb_start.proofs.ulb_start.Tie as tie
+use Rattle.ulb_start.proofs.ulb_start_colour.Statement.{statement}
+use Rattle.ulb_start.proofs.ulb_start_colour.Tie as tie
 
 judge-start-requires : tie.Need-judge-start-requires
 judge-start-requires c κs = search needs
@@ -35,12 +35,12 @@ clear-requires-4 c κs = search needs
 
 encode-requires : tie.Need-encode-requires
 encode-requires c κs =
-    ready-start _ _ _ _ _ _ _ (sym (c .before .before .before .before .before .before .before .before .before .before .before .before .before .before .before .before .before .before .before .before .judge-start .ensures) ∙ c .before .before .before .before .before .before .before .before .before .before .before .before .before .before .before .before .before .before .v2 .given .1) .stateIs
+    ready-start _ _ _ _ _ _ _ _ (sym (c .before .before .before .before .before .before .before .before .before .before .before .before .before .before .before .before .before .before .before .before .judge-start .ensures) ∙ c .before .before .before .before .before .before .before .before .before .before .before .before .before .before .before .before .before .before .v2 .given .1) .stateIs
 
 returns : tie.Need-returns
 returns c =
     let g = c .before .before .before .before .before .before .before .before .before .before .args in
-    start-refused (lent (now (g .state)) (now (g .ram)) (now (g .a)) (now (g .b)) (now (g .border))) _ _ (c .before .before .before .before .judge-start .ensures) _ _ (c .before .before .v .given .1) (c .number .ensures)
+    start-refused (lent (now (g .state)) (now (g .ram)) (now (g .a)) (now (g .b)) (now (g .border))) _ _ _ (c .before .before .before .before .judge-start .ensures) _ _ (c .before .before .v .given .1) (c .number .ensures)
 
 same-length : tie.Need-same-length
 same-length c = search needs
@@ -60,14 +60,14 @@ same-length-5 c = search needs
 returns-2 : tie.Need-returns-2
 returns-2 c =
     let g = c .before .before .before .before .before .before .before .before .before .before .before .before .before .before .before .before .before .before .before .before .before .before .before .before .before .before .before .before .before .args in
-    start-accepted (lent (now (g .state)) (now (g .ram)) (now (g .a)) (now (g .b)) (now (g .border))) _ _ (c .before .before .before .before .before .before .before .before .before .before .before .before .before .before .before .before .before .before .before .before .before .before .before .judge-start .ensures) _ _ _ _ _ _ (c .before .before .before .before .before .before .before .before .before .before .before .before .before .before .before .before .before .before .before .before .before .v2 .given .1)
+    start-accepted (lent (now (g .state)) (now (g .ram)) (now (g .a)) (now (g .b)) (now (g .border))) _ _ _ (c .before .before .before .before .before .before .before .before .before .before .before .before .before .before .before .before .before .before .before .before .before .before .before .judge-start .ensures) _ _ _ _ _ _ (c .before .before .before .before .before .before .before .before .before .before .before .before .before .before .before .before .before .before .before .before .before .v2 .given .1)
     (c .before .before .encode .ensures)
     (c .before .before .before .before .before .before .before .before .before .before .before .before .before .before .before .before .before .before .clear .ensures)
     (c .before .before .before .before .before .before .before .before .before .before .before .before .before .before .clear2 .ensures)
     (c .before .before .before .before .before .before .before .before .before .before .clear3 .ensures) (c .before .before .before .before .before .before .clear4 .ensures)
 
-pub ulb-start-spec : {M : Type 1} → statement M
-ulb-start-spec =
+pub ulb-start-colour-spec : {M : Type 1} → statement M
+ulb-start-colour-spec =
     tie.close
     (tie.spec
     judge-start-requires
