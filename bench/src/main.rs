@@ -4,7 +4,7 @@
 use compare::{c, Ours};
 use core_ay::door::Plain;
 use play::random::{BLOCK, LINE};
-use play::script::{filling, FRAME};
+use play::script::{filling, start, FRAME, WHITE};
 use std::hint::black_box;
 use ulb_machine::{Kind, Machine};
 
@@ -38,7 +38,7 @@ fn rust() -> Plain {
 }
 
 fn ours() -> Ours {
-    let mut m = Ours::new(MACHINE, 1);
+    let mut m = Ours::new(start(MACHINE, 1, WHITE));
     for page in 0..8 {
         assert_eq!(0, c::load_page(&m.state, &mut m.ram, &filling(page, 16_384), page));
     }
@@ -48,7 +48,7 @@ fn ours() -> Ours {
 /// The same machine in the wrapper that a firmware uses, which reads bytes without a call.
 fn wrapped() -> Box<Machine> {
     let mut m = Machine::boxed();
-    m.start(Kind::Spectrum128, &filling(99, 32_768)).unwrap();
+    m.start_colour(Kind::Spectrum128, &filling(99, 32_768), WHITE as u32).unwrap();
     for page in 0..8 {
         m.load_page(&filling(page, 16_384), page).unwrap();
     }

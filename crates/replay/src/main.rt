@@ -16,7 +16,7 @@ fn start(
     border: &mut [u8],
 ) {
     script::no_devices(devices, call.x);
-    script::say_done(ulb_start::ulb_start(state, ram, a, b, border, call.z));
+    script::say_done(ulb_start::ulb_start_colour(state, ram, a, b, border, call.z, call.y as u32));
 }
 
 // A timed call: its refusal.

@@ -6,6 +6,13 @@ pub mod c {
 use play::script::*;
 use play::State;
 
+const PLAIN_START: u8 = b'0';
+
+/// A start that scripts do not have: ours is `ulb_start`, which takes no colour, and the original's takes black.
+pub fn plain_start(machine: u8, ay: u8) -> Record {
+    Record { op: PLAIN_START, ..start(machine, ay, 0) }
+}
+
 pub struct Ours {
     pub machine: u8,
     pub state: [u8; 23],
@@ -50,13 +57,14 @@ fn told(call: impl FnOnce(&mut [u8; 5]) -> u8) -> Answer {
 }
 
 impl Ours {
-    pub fn new(machine: u8, ay: u8) -> Self {
-        let m = machine as usize;
+    /// A fresh machine by the record of its start.
+    pub fn new(r: Record) -> Self {
+        let m = r.z as usize;
         let picture = vec![0x55; 49_152];
         let mut ours = Ours {
-            machine,
+            machine: r.z as u8,
             state: [0xAA; 23],
-            devices: devices(ay),
+            devices: devices(r.x),
             rom: vec![0; ROM_BYTES[m]],
             ram: vec![0x55; RAM_BYTES[m]],
             a: picture.clone(),
@@ -64,7 +72,11 @@ impl Ours {
             border: vec![0x55; 76_800],
         };
         let Ours { state, ram, a, b, border, .. } = &mut ours;
-        assert_eq!(0, c::start(state, ram, a, b, border, machine as u32));
+        let refusal = match r.op {
+            PLAIN_START => c::start(state, ram, a, b, border, r.z),
+            _ => c::start_colour(state, ram, a, b, border, r.z, r.y as u32),
+        };
+        assert_eq!(0, refusal);
         ours
     }
 

@@ -1,7 +1,8 @@
-//! compare [SECONDS [SEED]]: the original and our library side by side, call by call, each answer compared; pictures, border and RAM
-//! compared whole at every frame's end and every 64 calls. First calls at every clock of a frame, then random histories.
-//! Where they differ it prints the shortest script that it finds and stops with status 1.
-use compare::Ours;
+//! compare [SECONDS [SEED]]: the original and our library side by side, call by call, each answer compared; pictures,
+//! border and RAM compared whole at every frame's end and every 64 calls. First calls at every clock of a frame and
+//! from every start, then random histories. Where they differ it prints the shortest script that it finds and stops
+//! with status 1.
+use compare::{plain_start, Ours};
 use play::random::{self, Rng};
 use play::script::*;
 use play::Side;
@@ -42,14 +43,14 @@ struct Pair {
     t: Tally,
 }
 
-/// Two records that scripts do not have: `J` goes to a sound state of the next frame by the seed z, `X` to the clock z.
+/// Two more records that scripts do not have: `J` goes to a sound state of the next frame by the seed z, `X` to the
+/// clock z.
 const JUMP: u8 = b'J';
 const SET_CLOCK: u8 = b'X';
 
 impl Pair {
-    fn new(machine: u8, ay: u8) -> Pair {
-        let since = vec![record(b'S', ay, 0, machine as u32)];
-        Pair { rust: play::start(machine, ay), ours: Ours::new(machine, ay), since, t: Tally::default() }
+    fn new(start: Record) -> Pair {
+        Pair { rust: play::start(start), ours: Ours::new(start), since: vec![start], t: Tally::default() }
     }
 
     fn whole(&mut self) -> Result<(), String> {
@@ -124,7 +125,8 @@ impl Pair {
 
 /// Plays a script from its start record, and compares as it goes: in a short one everything after each record.
 fn replay(script: &[Record]) -> Result<(), String> {
-    let mut pair = Pair::new(script[0].z as u8, script[0].x);
+    let mut pair = Pair::new(script[0]);
+    pair.look()?;
     for &r in &script[1..] {
         pair.step(r)?;
         if script.len() < 1000 {
@@ -180,9 +182,9 @@ fn timed_kinds() -> Vec<Record> {
 }
 
 /// A machine with full pages.
-fn full(machine: u8, ay: u8, paging: u8, seed: u32) -> Pair {
-    let mut pair = Pair::new(machine, ay);
-    let pages = (0..RAM_BYTES[machine as usize] / 16_384).map(|p| record(b'L', p as u8, 0, seed + p as u32));
+fn full(start: Record, paging: u8, seed: u32) -> Pair {
+    let mut pair = Pair::new(start);
+    let pages = (0..RAM_BYTES[start.z as usize] / 16_384).map(|p| record(b'L', p as u8, 0, seed + p as u32));
     for r in pages.chain([record(b'R', 0, 0, seed), record(b'7', paging, 0, 0)]) {
         let loaded = pair.step(r);
         or_stop(&pair, loaded);
@@ -193,7 +195,7 @@ fn full(machine: u8, ay: u8, paging: u8, seed: u32) -> Pair {
 /// A call begun at every clock of a frame. The clock only rises in a frame, so it takes a frame for each remainder by 17.
 fn every_clock(machine: u8, paging: u8, kind: Record) -> Tally {
     let frame = FRAME[machine as usize];
-    let mut pair = full(machine, 0, paging, 900);
+    let mut pair = full(start(machine, 0, WHITE), paging, 900);
     for first in 0..17 {
         let mut clock = first;
         while clock < frame {
@@ -215,7 +217,7 @@ fn every_clock(machine: u8, paging: u8, kind: Record) -> Tally {
 /// Waits of many lengths, 0 to 65,535, from a few clocks; after each one a wait of 1, which paints what is left over.
 fn every_length(machine: u8) -> Tally {
     let frame = FRAME[machine as usize];
-    let mut pair = full(machine, 0, 0, 950);
+    let mut pair = full(start(machine, 0, WHITE), 0, 950);
     for from in [0, random::CONTENTION[machine as usize], 57_344, frame - 65_535, frame - 1] {
         let near = |n: usize| n < 40 || n > 65_530 || (from + n).abs_diff(frame) < 3 || n % 251 == 0;
         for n in (0..=65_535).filter(|&n| near(n)) {
@@ -233,7 +235,7 @@ fn every_length(machine: u8) -> Tally {
 fn every_number() -> Tally {
     let mut total = Tally::default();
     for machine in 0..2 {
-        let mut pair = full(machine, 1, 0, 970);
+        let mut pair = full(start(machine, 1, WHITE), 0, 970);
         for z in 0..=65_535 {
             for op in *b"abcdef" {
                 if op != b'f' || z < 256 {
@@ -258,6 +260,39 @@ fn every_number() -> Tally {
     total
 }
 
+/// A script from each start: of every colour, and of the one that takes none.
+fn from_each_start(machine: u8, script: &[Record]) -> Tally {
+    let mut total = Tally::default();
+    let starts = (0..=WHITE).map(|colour| start(machine, 0, colour));
+    for start in starts.chain([plain_start(machine, 0)]) {
+        let mut pair = Pair::new(start);
+        let begun = pair.look().and_then(|()| pair.whole());
+        or_stop(&pair, begun);
+        for &r in script {
+            let went = pair.step(r);
+            or_stop(&pair, went);
+        }
+        total.add(pair.t);
+    }
+    total
+}
+
+/// What a start's colour paints until another is written, at each edge of the first frame or of the second.
+fn every_start() -> Tally {
+    let mut total = Tally::default();
+    for machine in 0..2 {
+        let go = |clock: usize| record(SET_CLOCK, 0, 0, clock as u32);
+        let close = [go(FRAME[machine as usize] - 1), record(b'N', 0, 0, 1)];
+        for edge in random::edges(machine) {
+            let write = [go(edge - 1), record(b'W', 2, 0x00FE, 0)];
+            for script in [[write, close, close], [close, write, close]] {
+                total.add(from_each_start(machine, &script.concat()));
+            }
+        }
+    }
+    total
+}
+
 /// For a screen file: mostly a video page, now and then any, or one that there is not.
 fn random_page(r: &mut Rng, machine: u8) -> u8 {
     match (r.chance(4), machine) {
@@ -267,12 +302,27 @@ fn random_page(r: &mut Rng, machine: u8) -> u8 {
     }
 }
 
-/// A random history. Every fourth goes to sound states that no history from a start reaches.
-fn history(seed: u64, calls: usize) -> Tally {
+/// Mostly as the original starts by itself; one in four with another colour than white, and a quarter of these by the
+/// start that takes none.
+fn random_start(r: &mut Rng, machine: u8, ay: u8) -> Record {
+    match r.below(16) {
+        0 => plain_start(machine, ay),
+        1..=3 => start(machine, ay, r.below(WHITE as usize) as u8),
+        _ => start(machine, ay, WHITE),
+    }
+}
+
+/// A random history, and its start. Every fourth goes to sound states that no history from a start reaches.
+fn history(seed: u64, calls: usize) -> (Record, Tally) {
     let mut r = Rng(seed.wrapping_mul(0x0123_4567_89AB_CDEF) ^ 0x2468);
     let (machine, ay, lengths) = ((seed % 2) as u8, (seed / 2 % 2) as u8, (seed / 4 % 4) as u8);
-    let mut pair = full(machine, ay, 0, r.next() as u32 >> 1);
+    let mut pair = full(random_start(&mut r, machine, ay), 0, r.next() as u32 >> 1);
     let locks = r.chance(2);
+    // half of them wait first, so that the beam paints in the start's colour before a write takes another
+    if r.chance(2) {
+        let went = pair.step(record(b'N', 0, 0, r.below(65_536) as u32));
+        or_stop(&pair, went);
+    }
     for _ in 0..calls {
         if lengths == 3 && r.chance(24) {
             let went = pair.step(record(JUMP, 0, 0, r.next() as u32));
@@ -288,7 +338,7 @@ fn history(seed: u64, calls: usize) -> Tally {
     }
     let ended = pair.stills().and_then(|_| pair.whole());
     or_stop(&pair, ended);
-    pair.t
+    (pair.since[0], pair.t)
 }
 
 fn main() {
@@ -308,12 +358,17 @@ fn main() {
     let numbers = every_number();
     println!("every number: {numbers}");
     total.add(numbers);
-    let (began, mut histories, mut random) = (Instant::now(), 0, Tally::default());
+    let starts = every_start();
+    println!("every start: {starts}");
+    total.add(starts);
+    let (began, mut histories, mut coloured, mut random) = (Instant::now(), 0, 0, Tally::default());
     while began.elapsed() < Duration::from_secs(seconds) {
-        random.add(history((seed << 32) + histories, 4096));
+        let (start, tally) = history((seed << 32) + histories, 4096);
+        random.add(tally);
         histories += 1;
+        coloured += (start.y != WHITE as u16) as u64;
     }
-    println!("{histories} random histories: {random}");
+    println!("{histories} random histories, {coloured} from another colour than white: {random}");
     total.add(random);
     println!("no difference in {total}");
 }

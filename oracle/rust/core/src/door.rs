@@ -256,6 +256,10 @@ impl<H: Host<IoExtender = Extender>> Door<H> {
     pub fn set_border_color(&mut self, color: u8) {
         self.c.border_color = ZXColor::from_bits(color)
     }
+    /// The beam's colour from a frame's start on; the reported border stays as it is.
+    pub fn set_beam(&mut self, color: u8) {
+        self.c.border.set_border(0, ZXColor::from_bits(color))
+    }
 }
 
 pub type Plain = Door<PlainHost>;

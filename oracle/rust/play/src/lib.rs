@@ -37,11 +37,12 @@ pub trait Side {
     fn pictures(&self) -> [Vec<u8>; 3];
 }
 
-/// A fresh machine of the original, from the build with or without the AY.
-pub fn start(machine: u8, ay: u8) -> Box<dyn Side> {
-    match ay {
-        0 => Box::new(noay::RustSide::new(machine)),
-        _ => Box::new(ay::RustSide::new(machine)),
+/// A fresh machine of the original by the record of its start, from the build with or without the AY.
+pub fn start(r: Record) -> Box<dyn Side> {
+    let (machine, colour) = (r.z as u8, u8::try_from(r.y).expect("a colour"));
+    match r.x {
+        0 => Box::new(noay::RustSide::new(machine, colour)),
+        _ => Box::new(ay::RustSide::new(machine, colour)),
     }
 }
 

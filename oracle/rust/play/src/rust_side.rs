@@ -29,8 +29,14 @@ fn helper(r: Record) -> Answer {
 }
 
 impl RustSide {
-    pub fn new(machine: u8) -> Self {
-        RustSide { m: Watched::new(machine), machine, devices: devices(door::AY as u8) }
+    /// The original's own start, whose beam is white. It takes no colour: for another one its border is told so before
+    /// any time passes, and the border that it reports stays black.
+    pub fn new(machine: u8, colour: u8) -> Self {
+        let mut m = Watched::new(machine);
+        if colour != WHITE {
+            m.door.set_beam(colour)
+        }
+        RustSide { m, machine, devices: devices(door::AY as u8) }
     }
 
     /// A timed call: what it answers, and what is seen of it from outside.

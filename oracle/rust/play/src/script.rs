@@ -14,6 +14,13 @@ pub fn record(op: u8, x: u8, y: u16, z: u32) -> Record {
     Record { op, x, y, z }
 }
 
+/// The beam's colour in the original's own start.
+pub const WHITE: u8 = 7;
+
+pub fn start(machine: u8, ay: u8, colour: u8) -> Record {
+    record(b'S', ay, colour as u16, machine as u32)
+}
+
 impl Record {
     pub fn encode(self) -> [u8; 8] {
         let ([y0, y1], [z0, z1, z2, z3]) = (self.y.to_le_bytes(), self.z.to_le_bytes());

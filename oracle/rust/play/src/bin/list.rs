@@ -11,10 +11,12 @@ struct List {
 }
 
 impl List {
+    /// As the original starts by itself: the stored script has no other colour.
     fn start(&mut self, machine: u8, ay: u8) {
-        self.side = play::start(machine, ay);
+        let r = start(machine, ay, WHITE);
+        self.side = play::start(r);
         self.machine = machine;
-        self.bytes.extend(record(b'S', ay, 0, machine as u32).encode());
+        self.bytes.extend(r.encode());
     }
 
     fn add(&mut self, op: u8, x: u8, y: u16, z: u32) {
@@ -233,7 +235,7 @@ fn histories(l: &mut List, calls: usize) {
 
 fn main() {
     play::keep_quiet();
-    let mut l = List { side: play::start(0, 0), machine: 0, bytes: Vec::new() };
+    let mut l = List { side: play::start(start(0, 0, WHITE)), machine: 0, bytes: Vec::new() };
     plain_calls(&mut l);
     at_edges(&mut l);
     port_classes(&mut l);
