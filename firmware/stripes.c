@@ -262,7 +262,7 @@ int main(int argc, char **argv) {
     const char *path = argc > 1 ? argv[1] : "stripes.png";
     if (ulb_machine_init(&m, ULB_48K, rom, sizeof rom) != ULB_OK) stop("no machine");
     if (ulb_machine_init(&scratch, ULB_48K, rom, sizeof rom) != ULB_OK) stop("no second machine");
-    log_border(0, 7); /* a start's beam colour is white */
+    log_border(0, ulb_machine_beam_colour(&m)); /* the border has the start's colour until the first write */
 
     draw_attributes();
     draw_title();

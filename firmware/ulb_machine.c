@@ -64,22 +64,32 @@ static uint8_t renew_map(ulb_machine *m) {
     return ULB_OK;
 }
 
-uint8_t ulb_machine_init(ulb_machine *m, uint32_t kind, const uint8_t *rom, size_t rom_len) {
+uint8_t ulb_machine_init_colour(ulb_machine *m, uint32_t kind, const uint8_t *rom, size_t rom_len, uint32_t colour) {
     if (kind > ULB_128K) return ULB_BAD_MACHINE;
     size_t wanted = kind == ULB_48K ? ULB_ROM_BYTES_48K : ULB_ROM_BYTES_128K;
+    size_t ram_len = kind == ULB_48K ? ULB_RAM_BYTES_48K : ULB_RAM_BYTES_128K;
     if (rom == NULL || rom_len != wanted) return ULB_BAD_LENGTH;
+    /* before all else that is written: it judges the colour, and refused it leaves the machine as it was */
+    uint8_t refusal = ulb_start_colour(STATE, m->ram, ram_len, PAINTED, kind, colour);
+    if (refusal != ULB_OK) return refusal;
     m->kind = kind;
     m->rom_len = wanted;
-    m->ram_len = kind == ULB_48K ? ULB_RAM_BYTES_48K : ULB_RAM_BYTES_128K;
+    m->ram_len = ram_len;
     memcpy(m->rom, rom, wanted);
     ulb_machine_no_devices(m);
-    return ulb_machine_restart(m);
+    return renew_map(m);
 }
 
-uint8_t ulb_machine_restart(ulb_machine *m) {
-    uint8_t refusal = ulb_start(STATE, RAM, PAINTED, m->kind);
+uint8_t ulb_machine_init(ulb_machine *m, uint32_t kind, const uint8_t *rom, size_t rom_len) {
+    return ulb_machine_init_colour(m, kind, rom, rom_len, 0);
+}
+
+uint8_t ulb_machine_restart_colour(ulb_machine *m, uint32_t colour) {
+    uint8_t refusal = ulb_start_colour(STATE, RAM, PAINTED, m->kind, colour);
     return refusal == ULB_OK ? renew_map(m) : refusal;
 }
+
+uint8_t ulb_machine_restart(ulb_machine *m) { return ulb_machine_restart_colour(m, 0); }
 
 ulb_timed ulb_machine_wait(ulb_machine *m, uint32_t clocks) {
     uint8_t answer[ULB_TIMED_ANSWER_BYTES] = {0};
@@ -255,6 +265,7 @@ uint32_t ulb_machine_passed_frames(const ulb_machine *m) { return word32(m->stat
 uint8_t ulb_machine_phase(const ulb_machine *m) { return m->state[14]; }
 uint16_t ulb_machine_blocks_painted(const ulb_machine *m) { return word16(m->state + 15); }
 uint8_t ulb_machine_reported_border(const ulb_machine *m) { return m->state[18]; }
+uint8_t ulb_machine_beam_colour(const ulb_machine *m) { return m->state[19]; }
 uint32_t ulb_machine_frame_length(const ulb_machine *m) { return m->kind == ULB_48K ? 69888 : 70908; }
 
 const char *ulb_refusal_text(uint8_t refusal) {

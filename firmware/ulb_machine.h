@@ -62,11 +62,16 @@ typedef struct {
     bool in_rom;       /* ulb_machine_block only: the part is ROM, so writes to it vanish */
 } ulb_part;
 
-/* Takes a copy of the ROM and starts (ulb_start). No key is down, the tape bit is 1, no device is present.
+/* Takes a copy of the ROM and starts, in black (as ulb_start). No key is down, the tape bit is 1, no device is present.
  * Refusals: 1 kind above 1; 2 the ROM is not 16,384 bytes (48K) or 32,768 bytes (128K). Refused: nothing is written. */
 uint8_t ulb_machine_init(ulb_machine *m, uint32_t kind, const uint8_t *rom, size_t rom_len);
-/* Starts again, same kind and ROM, same devices: RAM, pictures, border and record as at the first start. */
+/* The same in a beam colour 0..7 (ulb_start_colour): for a capture bench whose stored first frames begin white, which
+ * asks for 7. Refusals: 1, 2 as above; 8 colour above 7. Refused: nothing is written. */
+uint8_t ulb_machine_init_colour(ulb_machine *m, uint32_t kind, const uint8_t *rom, size_t rom_len, uint32_t colour);
+/* Starts again, in black or in a colour, same kind and ROM, same devices: RAM, pictures, border and record as at the
+ * first start. Refusal, with nothing changed: 8 colour above 7. */
 uint8_t ulb_machine_restart(ulb_machine *m);
+uint8_t ulb_machine_restart_colour(ulb_machine *m, uint32_t colour);
 
 /* Timed calls: ulb_wait_internal, ulb_wait_mreq, ulb_wait_no_mreq, ulb_read_io, ulb_write_io. */
 ulb_timed ulb_machine_wait(ulb_machine *m, uint32_t clocks);
@@ -140,6 +145,7 @@ uint32_t ulb_machine_passed_frames(const ulb_machine *m);
 uint8_t ulb_machine_phase(const ulb_machine *m);
 uint16_t ulb_machine_blocks_painted(const ulb_machine *m);
 uint8_t ulb_machine_reported_border(const ulb_machine *m);
+uint8_t ulb_machine_beam_colour(const ulb_machine *m);
 /* Clocks of one frame: 69,888 or 70,908. */
 uint32_t ulb_machine_frame_length(const ulb_machine *m);
 

@@ -14,7 +14,7 @@
  *   6  a timed call with passed frames at 4,294,967,295
  *   7  a RAM page above 2 (48K) or 7 (128K)
  *   9  a RAM page that is no video page: other than 0 (48K), or than 5 and 7 (128K)
- *   8  a number outside its range
+ *   8  a number outside its range; start: a colour above 7
  *
  * A timed call's answer has 10 bytes, little-endian:
  *   0 refusal; 1 value or code (0 for a wait); 2 frame closed 0/1; 3 interrupt after the call 0/1;
@@ -35,6 +35,7 @@
  *      160                     ulb_write_7ffd, ulb_save_scr
  *      144                     ulb_read_7ffd, ulb_int_active, ulb_frames_count
  *      128                     ulb_reset_frame_counter
+ *      120                     ulb_start_colour
  *      104                     ulb_start
  *       48                     ulb_write_internal
  *        8                     ulb_bitmap_line_addr, ulb_bitmap_line_rel, ulb_bitmap_col_rel, ulb_attr_row_rel,
@@ -92,10 +93,18 @@ enum {
     ULB_LOCKED = 6
 };
 
-/* Start: clears RAM, pictures and border to 0 and writes a fresh state record (beam colour 7, all else 0).
- * It does not judge the record that it writes over. Refusals: 1, 2. */
+/* Start, with a black border: clears RAM, pictures and border to 0 and writes a fresh state record, 0 everywhere but
+ * mark, version and machine. It does not judge the record that it writes over. Refusals: 1, 2. */
 uint8_t ulb_start(uint8_t *state, size_t state_len, uint8_t *ram, size_t ram_len, uint8_t *a, size_t a_len,
                   uint8_t *b, size_t b_len, uint8_t *border, size_t border_len, uint32_t machine);
+
+/* The same start in a beam colour 0..7; ulb_start is this with 0. For a capture bench whose stored first frames begin
+ * white: it asks for 7, with which the Rust original, rustzx, starts. The border that is reported is 0 whatever the
+ * colour. Nothing is painted yet: the colour shows as the beam runs, frame after frame, until the first border write.
+ * Refusals: 1, 2, 8. */
+uint8_t ulb_start_colour(uint8_t *state, size_t state_len, uint8_t *ram, size_t ram_len, uint8_t *a, size_t a_len,
+                         uint8_t *b, size_t b_len, uint8_t *border, size_t border_len, uint32_t machine,
+                         uint32_t colour);
 
 /* Plain wait: one step of `clocks`. Answer: 10 bytes. Refusals: 2, 3, 2, 5, 6. */
 uint8_t ulb_wait_internal(uint8_t *state, size_t state_len, const uint8_t *ram, size_t ram_len, uint8_t *a,

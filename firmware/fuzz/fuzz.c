@@ -10,7 +10,6 @@
 #include <stdlib.h>
 #include <string.h>
 #include "lending.h"
-#include "ulb.h"
 
 /* ---- Random numbers: the same for a seed on every machine --------------------------------------------------------- */
 
@@ -32,8 +31,9 @@ static unsigned long accepted[KINDS], refused[10], painted_from_file;
 
 static void describe(void) {
     const call_shape *shape = &shapes[now.c.kind];
-    printf("  seed %llu, call %lu: %s number %lu addr %04Xh value %02Xh, wanted %u\n  record", (unsigned long long)now.seed,
-           now.number, shape->name, (unsigned long)now.c.number, now.c.addr, now.c.value, now.wanted);
+    printf("  seed %llu, call %lu: %s number %lu colour %lu addr %04Xh value %02Xh, wanted %u\n  record",
+           (unsigned long long)now.seed, now.number, shape->name, (unsigned long)now.c.number,
+           (unsigned long)now.c.colour, now.c.addr, now.c.value, now.wanted);
     for (int i = 0; i < 23; i++) printf(" %02X", now.state[i]);
     printf("\n  lengths");
     for (int s = 0; s < SLICES; s++)
@@ -86,7 +86,7 @@ static uint8_t *lent(const call *c, slice s, unsigned machine, bool writable) {
     return (writable ? z->rw : z->ro) + offset(z, s, c->length[s]);
 }
 
-/* ---- A session: a start and what follows --------------------------------------------------------------------------- */
+/* ---- A session: one of the two starts, and what follows ---------------------------------------------------------- */
 
 static world w;                 /* the reading's own memory */
 static uint8_t state[23], devices[35];
@@ -147,23 +147,25 @@ static void new_session(void) {
     at_end[BORDER] = chance(50);
     at_end[SCR] = chance(50);
     file_read = in_mid_frame = false;
-    call c = {START, {0}, 0, 0, 0};
-    uint8_t none[10];
+    call c = {chance(50) ? START : START_COLOUR, {0}, 0, 0, 0, 0};
+    uint8_t none[10], *p[SLICES];
     c.number = machine;
+    if (c.kind == START_COLOUR) c.colour = below(8);
     refill(ROM, w.rom);
     refill(BYTES, w.bytes);
     refill(SCR, w.file);
     refill(PICTURE, w.still);
     carry_out(&c, state, devices, &w, none);
-    uint8_t *s = own(STATE, machine, 23), *ram = own(RAM, machine, machines[machine].ram), *edge = own(BORDER, machine, 76800);
-    uint8_t *a = own(A, machine, 49152), *b = own(B, machine, 49152);
-    memset(ram, 0x77, machines[machine].ram);
-    memset(edge, 0x77, 76800);
+    for (slice s = STATE; s < SLICES; s++) {
+        c.length[s] = shapes[c.kind].lent >> s & 1 ? right_length(s, machine, 0) : 0;
+        p[s] = own(s, machine, c.length[s]);
+        memset(p[s], 0x77, c.length[s]); /* the record too: a start does not judge it */
+    }
     now.wanted = 0;
     now.c = c;
-    uint8_t got = ulb_start(s, 23, ram, machines[machine].ram, a, 49152, b, 49152, edge, 76800, machine);
+    uint8_t got = make_call(&c, p);
     if (got != 0) differs("start", got, 0);
-    compare("record after a start", s, state, 23);
+    compare("record after a start", p[STATE], state, 23);
     compare_memory();
     if (chance(80)) refill(RAM, w.ram); /* bytes that show */
 }
@@ -239,7 +241,8 @@ static uint16_t random_port(void) {
 
 static uint32_t random_number(call_kind k) {
     switch (k) {
-        case START: return chance(30) ? machine : chance(30) ? 1 - machine : chance(50) ? 2 + below(3) : roll();
+        case START:
+        case START_COLOUR: return chance(30) ? machine : chance(30) ? 1 - machine : chance(50) ? 2 + below(3) : roll();
         case WAIT_INTERNAL:
         case WAIT_MREQ:
         case WAIT_NO_MREQ: return chance(80) ? below(30) : chance(60) ? below(9000) : chance(70) ? near(65535) : roll();
@@ -255,6 +258,12 @@ static uint32_t random_number(call_kind k) {
         case ATTR_COL_REL: return chance(90) ? 0x17FC + below(0x308) : roll();
         default: return chance(90) ? below(10) : roll();
     }
+}
+
+/* Of a start: 0..7 more often than not; else just above, or a number whose low byte or low bits alone would do. */
+static uint32_t random_colour(void) {
+    static const uint32_t wrong[] = {8, 255, 256, 0x80000007};
+    return chance(70) ? below(8) : chance(80) ? wrong[below(sizeof wrong / sizeof *wrong)] : roll();
 }
 
 static size_t wrong_length(size_t right) {
@@ -278,6 +287,7 @@ static call random_call(void) {
         c.kind = WAIT_INTERNAL + below(3);
         c.number = below(9000);
     }
+    c.colour = c.kind == START_COLOUR ? random_colour() : 0;
     c.addr = c.kind == READ_IO || c.kind == WRITE_IO ? random_port() : (uint16_t)roll();
     c.value = (uint8_t)(chance(70) ? roll() & 0xDF : roll());
     for (slice s = STATE; s < SLICES; s++) {
@@ -337,7 +347,7 @@ static void one_call(void) {
     uint8_t bytes[23], want[10] = {0}, *p[SLICES];
     lend_record(bytes);
     /* the other machine's RAM and ROM are not at hand, so its start and its record meet this machine's lengths: refusal 2 */
-    if ((c.kind == START ? c.number : bytes[5]) != machine) {
+    if ((is_start(c.kind) ? c.number : bytes[5]) != machine) {
         if (c.length[RAM] > 0) c.length[RAM] = machines[machine].ram;
         if (c.length[ROM] > 0) c.length[ROM] = machines[machine].rom;
     }
@@ -373,9 +383,9 @@ static void one_call(void) {
         memcpy(state, bytes, 23);
     }
     count_up(&c, answer);
-    if (c.kind == START) memset(&sum, 0, sizeof sum);
+    if (is_start(c.kind)) memset(&sum, 0, sizeof sum);
     bool copies = c.kind == LOAD_PAGE || c.kind == SAVE_SCR || c.kind == LOAD_SCR;
-    if (c.kind == START || copies || c.kind == STILL_PICTURE || file_read) compare_memory();
+    if (is_start(c.kind) || copies || c.kind == STILL_PICTURE || file_read) compare_memory();
     watch_files(&c, answer);
 }
 

@@ -60,6 +60,7 @@ uint8_t make_call(const call *c, uint8_t *p[SLICES]) {
 #define LENT S(RAM), S(A), S(B), S(BORDER)
     switch (c->kind) {
         case START: return ulb_start(S(STATE), LENT, c->number);
+        case START_COLOUR: return ulb_start_colour(S(STATE), LENT, c->number, c->colour);
         case WAIT_INTERNAL: return ulb_wait_internal(S(STATE), LENT, c->number, S(ANSWER));
         case WAIT_MREQ: return ulb_wait_mreq(S(STATE), LENT, c->addr, c->number, S(ANSWER));
         case WAIT_NO_MREQ: return ulb_wait_no_mreq(S(STATE), LENT, c->addr, c->number, S(ANSWER));

@@ -8,6 +8,7 @@
 
 const call_shape shapes[KINDS] = {
     {"ulb_start", BIT(STATE) | BIT(RAM) | PAINTED, BIT(STATE) | BIT(RAM) | PAINTED, 0},
+    {"ulb_start_colour", BIT(STATE) | BIT(RAM) | PAINTED, BIT(STATE) | BIT(RAM) | PAINTED, 0},
     {"ulb_wait_internal", TIMED, BIT(STATE) | PAINTED | BIT(ANSWER), 10},
     {"ulb_wait_mreq", TIMED, BIT(STATE) | PAINTED | BIT(ANSWER), 10},
     {"ulb_wait_no_mreq", TIMED, BIT(STATE) | PAINTED | BIT(ANSWER), 10},
@@ -148,6 +149,7 @@ size_t right_length(slice s, unsigned machine, unsigned answer) {
 
 /* ---- "Eight refusals": "Order: 1, record length, 3, other lengths, 4, 5, 6, 7, 8."; 9 "after 7" (02, Q-2) -------- */
 
+bool is_start(call_kind k) { return k == START || k == START_COLOUR; }
 static bool is_wait(call_kind k) { return k == WAIT_INTERNAL || k == WAIT_MREQ || k == WAIT_NO_MREQ; }
 static bool is_port(call_kind k) { return k == READ_IO || k == WRITE_IO; }
 static bool names_page(call_kind k) { return k == LOAD_PAGE || k == LOAD_SCR || k == RAM_PAGE; }
@@ -157,9 +159,12 @@ static bool flags_hold(const uint8_t *devices) {
     return devices[24] <= 1 && devices[25] <= 1 && devices[27] <= 1 && devices[29] <= 1 && devices[31] <= 1;
 }
 
-/* "line 191, bitmap 17FFh, attributes 1800h to 1AFFh, colour 7, block 3, still-picture flash 1" */
-static bool out_of_range(call_kind k, uint32_t number) {
-    switch (k) {
+/* "line 191, bitmap 17FFh, attributes 1800h to 1AFFh, colour 7, block 3, still-picture flash 1"; of the second start
+ * "colour above 7 is 8, after 1 and 2" (02, Q-3) */
+static bool out_of_range(const call *c) {
+    uint32_t number = c->number;
+    switch (c->kind) {
+        case START_COLOUR: return c->colour > 7;
         case BITMAP_LINE_ADDR: return number > 191;
         case BITMAP_LINE_REL:
         case BITMAP_COL_REL: return number > 0x17FF;
@@ -178,13 +183,13 @@ static bool is_video_page(unsigned machine, uint32_t page) { return machine == 0
 unsigned refusal_of(const call *c, const uint8_t *state, const uint8_t *devices) {
     const call_shape *shape = &shapes[c->kind];
     record r = {0, 0, 0, 0, 0, 0, 0, 0, 0, 0};
-    if (c->kind == START) {
+    if (is_start(c->kind)) {
         if (c->number > 1) return 1;
         r.machine = c->number;
     }
     if (shape->lent & BIT(STATE)) {
         if (c->length[STATE] != 23) return 2;
-        if (c->kind != START && !sound(state, &r)) return 3;
+        if (!is_start(c->kind) && !sound(state, &r)) return 3;
     }
     for (slice s = STATE; s < SLICES; s++)
         if (shape->lent & BIT(s) && c->length[s] != right_length(s, r.machine, shape->answer)) return 2;
@@ -193,7 +198,7 @@ unsigned refusal_of(const call *c, const uint8_t *state, const uint8_t *devices)
     if ((is_wait(c->kind) || is_port(c->kind)) && r.passed == 4294967295u) return 6;
     if (names_page(c->kind) && c->number > (r.machine == 0 ? 2u : 7u)) return 7;
     if (c->kind == LOAD_SCR && !is_video_page(r.machine, c->number)) return 9;
-    return out_of_range(c->kind, c->number) ? 8 : 0;
+    return out_of_range(c) ? 8 : 0;
 }
 
 /* ---- "Start, time and paint" ----------------------------------------------------------------------------------------- */
@@ -410,12 +415,15 @@ static uint32_t told(bus *b, const call *c) {
     }
 }
 
-/* "Start clears RAM, pictures and border to 0 and writes a record of zeros but for mark, version, machine and beam colour 7." */
-static void start(bus *b, const call *c) {
-    record fresh = {0, 0, 0, 0, 0, 0, 0, 7, 0, 0};
-    fresh.machine = c->number;
+/* "Start clears RAM, pictures and border to 0 and writes a record of zeros but for mark, version, machine and beam
+ * colour 7." In the place of that 7: "Start shall set the beam colour to 0, as the reported border already is", and
+ * beside it is "a second start that takes the beam colour" (02, Q-3). */
+static void start(bus *b, unsigned machine, unsigned colour) {
+    record fresh = {0, 0, 0, 0, 0, 0, 0, 0, 0, 0};
+    fresh.machine = machine;
+    fresh.colour = colour;
     b->r = fresh;
-    memset(b->w->ram, 0, machines[c->number].ram);
+    memset(b->w->ram, 0, machines[machine].ram);
     memset(b->w->picture, 0, sizeof b->w->picture);
     memset(b->w->border, 0, sizeof b->w->border);
 }
@@ -423,7 +431,8 @@ static void start(bus *b, const call *c) {
 void carry_out(const call *c, uint8_t state[23], const uint8_t devices[35], world *w, uint8_t answer[10]) {
     bus b = {&machines[0], {0, 0, 0, 0, 0, 0, 0, 0, 0, 0}, w, 0, 0, false};
     bool has_state = shapes[c->kind].lent & BIT(STATE);
-    if (c->kind == START) start(&b, c);
+    if (c->kind == START) start(&b, c->number, 0);
+    else if (c->kind == START_COLOUR) start(&b, c->number, c->colour);
     else if (has_state) sound(state, &b.r);
     b.n = &machines[b.r.machine];
     if (shapes[c->kind].answer == 10) {

@@ -11,9 +11,10 @@
 
 /* The calls of ulb.h, in its order. */
 typedef enum {
-    START, WAIT_INTERNAL, WAIT_MREQ, WAIT_NO_MREQ, READ_IO, WRITE_IO, READ_INTERNAL, WRITE_INTERNAL, WRITE_7FFD, READ_7FFD,
-    INT_ACTIVE, FRAMES_COUNT, RESET_FRAME_COUNTER, LOAD_PAGE, SAVE_SCR, LOAD_SCR, RAM_PAGE, BLOCK, SHOWN_PICTURE,
-    STILL_PICTURE, BITMAP_LINE_ADDR, BITMAP_LINE_REL, BITMAP_COL_REL, ATTR_ROW_REL, ATTR_COL_REL, COLOR_FROM_BITS, KINDS
+    START, START_COLOUR, WAIT_INTERNAL, WAIT_MREQ, WAIT_NO_MREQ, READ_IO, WRITE_IO, READ_INTERNAL, WRITE_INTERNAL,
+    WRITE_7FFD, READ_7FFD, INT_ACTIVE, FRAMES_COUNT, RESET_FRAME_COUNTER, LOAD_PAGE, SAVE_SCR, LOAD_SCR, RAM_PAGE,
+    BLOCK, SHOWN_PICTURE, STILL_PICTURE, BITMAP_LINE_ADDR, BITMAP_LINE_REL, BITMAP_COL_REL, ATTR_ROW_REL, ATTR_COL_REL,
+    COLOR_FROM_BITS, KINDS
 } call_kind;
 
 /* The slices that a call can be lent, in ulb.h's order. */
@@ -31,6 +32,7 @@ typedef struct {
     call_kind kind;
     size_t length[SLICES];
     uint32_t number; /* machine, clocks, page, block, flash, or a helper's number */
+    uint32_t colour; /* of START_COLOUR */
     uint16_t addr;   /* or port */
     uint8_t value;
 } call;
@@ -47,6 +49,9 @@ typedef struct {
     uint32_t clock, passed;
     unsigned phase, painted, paging, reported, colour, blocked, pairs;
 } record;
+
+/* Either start: it makes a record, and judges none. */
+bool is_start(call_kind k);
 
 bool sound(const uint8_t bytes[23], record *r);
 void encode(const record *r, uint8_t bytes[23]);

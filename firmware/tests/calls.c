@@ -63,6 +63,13 @@ static unsigned start(machine *m, unsigned kind) {
 #define TEN(m) (m)->answer, 10
 #define FIVE(m) (m)->answer + 5, 5 /* so that they too end at the guard page */
 
+/* The plain start, or the one in a colour; the colour that the beam then has. */
+enum { PLAIN = -1 };
+static unsigned start_in(machine *m, unsigned kind, int colour) {
+    return colour == PLAIN ? start(m, kind) : ulb_start_colour(OWN(m), LENT(m), kind, (uint32_t)colour);
+}
+static uint8_t beam_of(int colour) { return colour == PLAIN ? 0 : (uint8_t)colour; }
+
 static unsigned wait_plain(machine *m, uint32_t n) { return ulb_wait_internal(OWN(m), LENT(m), n, TEN(m)); }
 static unsigned in(machine *m, uint16_t port) {
     return ulb_read_io(OWN(m), m->devices, ULB_DEVICE_BYTES, LENT(m), port, TEN(m));
@@ -83,17 +90,81 @@ static unsigned long number(const machine *m) { return word32(m->answer + 6); } 
 static unsigned long frame_clock(const machine *m) { return word32(m->state + 6); }
 static void set32(uint8_t *p, unsigned long v) { for (int i = 0; i < 4; i++) p[i] = (uint8_t)(v >> (8 * i)); }
 
+static const uint32_t frame[2] = {69888, 70908};
+
+/* From the frame's clock on to its end, by waits alone. */
+static void close_frame(machine *m, unsigned kind) {
+    CHECK("wait into the frame", wait_plain(m, (frame[kind] - frame_clock(m)) / 2), 0);
+    CHECK("is not closed", m->answer[2], 0);
+    CHECK("wait to its end", wait_plain(m, frame[kind] - frame_clock(m)), 0);
+    CHECK("is closed", m->answer[2], 1);
+}
+
+/* Request Q-3: "Start shall set the beam colour to 0, as the reported border already is"; the second start sets the one
+ * that it is given. All else is cleared, whatever stood there, and nothing is painted. */
+static void fresh_start(machine *m, unsigned kind, int colour) {
+    const uint8_t fresh[ULB_STATE_BYTES] = {'U', 'L', 'B', 1, 0, (uint8_t)kind, 0, 0, 0, 0, 0, 0, 0, 0, 0, 0, 0, 0,
+                                            0 /* the reported border */, beam_of(colour), 0, 0, 0};
+    memset(m->state, 0xAA, ULB_STATE_BYTES);
+    memset(m->ram, 0xAA, m->ram_len);
+    memset(m->a, 0xAA, ULB_PICTURE_BYTES);
+    memset(m->b, 0xAA, ULB_PICTURE_BYTES);
+    memset(m->border, 0xAA, ULB_BORDER_BYTES);
+    CHECK("start", start_in(m, kind, colour), 0);
+    for (int i = 0; i < ULB_STATE_BYTES; i++) CHECK("fresh record", m->state[i], fresh[i]);
+    CHECK("RAM is 0", all_are(m->ram, m->ram_len, 0), 1);
+    CHECK("picture A is 0", all_are(m->a, ULB_PICTURE_BYTES, 0), 1);
+    CHECK("picture B is 0", all_are(m->b, ULB_PICTURE_BYTES, 0), 1);
+    CHECK("border is 0", all_are(m->border, ULB_BORDER_BYTES, 0), 1);
+    CHECK("ROM is not touched", all_are(m->rom, m->rom_len, 0x55), 1);
+}
+
+/* Frames with no border write are all of the start's colour, the first and those after it: each of the 76,800 pixels,
+ * which are spoilt before so that one left alone would be seen. */
+static void unwritten_frames(machine *m, unsigned kind, int colour) {
+    fresh_start(m, kind, colour);
+    for (int frames = 0; frames < 2; frames++) {
+        memset(m->border, 0xAA, ULB_BORDER_BYTES);
+        close_frame(m, kind);
+        CHECK("a frame of the start's colour", all_are(m->border, ULB_BORDER_BYTES, beam_of(colour)), 1);
+    }
+    CHECK("still reported: black", m->state[18], 0);
+}
+
+/* A border write that acts at `clock`, in the first frame or in one after it, when the beam has passed `pixels`: these
+ * have the start's colour, and those behind the written one, as the next frame has. */
+static void written_frame(machine *m, unsigned kind, int colour, int frames, uint32_t clock, unsigned pixels) {
+    uint8_t beam = beam_of(colour), written = (beam + 3) % 8;
+    unsigned wrong = 0;
+    fresh_start(m, kind, colour);
+    while (frames-- > 0) close_frame(m, kind);
+    memset(m->border, 0xAA, ULB_BORDER_BYTES);
+    CHECK("wait", wait_plain(m, clock - 1), 0); /* the write acts after the call's first part, 1 clock at this port */
+    CHECK("border write", out(m, 0x00FE, written), 0);
+    CHECK("is one", m->answer[1], ULB_WROTE_BORDER);
+    CHECK("and is reported", m->state[18], written);
+    close_frame(m, kind);
+    for (unsigned i = 0; i < ULB_BORDER_BYTES; i++) wrong += m->border[i] != (i < pixels ? beam : written);
+    CHECK("pixels of another colour than the start's before the write, or than the written one behind it", wrong, 0);
+    memset(m->border, 0xAA, ULB_BORDER_BYTES);
+    close_frame(m, kind);
+    CHECK("the next frame has the written colour", all_are(m->border, ULB_BORDER_BYTES, written), 1);
+}
+
 static void starts(void) {
+    /* a frame's first clock; before and at the beam's first pixels; in line 100 and behind it; the last pixels; frame
+     * end. In the first frame, the second and the third by turns. */
+    static const struct { uint32_t clock[2]; unsigned pixels; } moments[] = {
+        {{1, 1}, 0}, {{8944, 8874}, 0}, {{8945, 8875}, 2}, {{31394, 31724}, 32100}, {{31505, 31835}, 32320},
+        {{62640, 63526}, 76800}, {{62641, 63527}, 76800},
+    };
     for (unsigned kind = 0; kind < 2; kind++) {
         machine m = make(kind);
-        CHECK("start", start(&m, kind), 0);
-        static const uint8_t fresh[23] = {'U', 'L', 'B', 1, 0};
-        for (int i = 0; i < 23; i++) CHECK("fresh record", m.state[i], i == 5 ? (int)kind : i == 19 ? 7 : fresh[i]);
-        CHECK("RAM is 0", all_are(m.ram, m.ram_len, 0), 1);
-        CHECK("picture A is 0", all_are(m.a, ULB_PICTURE_BYTES, 0), 1);
-        CHECK("picture B is 0", all_are(m.b, ULB_PICTURE_BYTES, 0), 1);
-        CHECK("border is 0", all_are(m.border, ULB_BORDER_BYTES, 0), 1);
-        CHECK("ROM is not touched", all_are(m.rom, m.rom_len, 0x55), 1);
+        for (int colour = PLAIN; colour < 8; colour++) {
+            unwritten_frames(&m, kind, colour);
+            for (size_t i = 0; i < sizeof moments / sizeof *moments; i++)
+                written_frame(&m, kind, colour, i % 3, moments[i].clock[kind], moments[i].pixels);
+        }
     }
 }
 
@@ -389,7 +460,6 @@ static void all_screen_files(void) {
  * frame has the file's, if its page is shown. One read into the other page shows when that does. */
 static void read_in_mid_frame(unsigned kind, uint8_t paging, uint32_t page, uint32_t clock, unsigned blocks) {
     enum { OLD = 1, NEW = 14 }; /* the file's bitmap with the old attribute would be 7, the other way round 8 */
-    static const uint32_t frame[2] = {69888, 70908};
     bool shown = kind == ULB_48K || page == (paging == 8 ? 7 : 5);
     machine m = make(kind);
     start(&m, kind);

@@ -1,5 +1,6 @@
 /* Holds the wrapper's read without a call (ulb_machine_byte) to ulb_read_internal: at the edges of each block and across it, on
  * both kinds, over every 7FFD byte, by either way of writing it, locked or not, after a restart, a loaded record and a copy.
+ * Then what else the wrapper does by itself: screen files, and its starts in black and in a colour.
  * Prints one line a failure and a last line `map: N checks, M failed`; exit status 1 if any failed. */
 #include <stdio.h>
 #include <string.h>
@@ -71,6 +72,53 @@ static void screen_files(void) {
     CHECK("page 6 is no video page", ulb_machine_load_scr(&m, file, sizeof file, 6), ULB_NO_VIDEO_PAGE);
     CHECK("which has words", strcmp(ulb_refusal_text(ULB_NO_VIDEO_PAGE), "a RAM page that is no video page"), 0);
     CHECK("and 10 has none", strcmp(ulb_refusal_text(10), "no refusal has this number"), 0);
+}
+
+/* After a start ROM is there and RAM empty; the first frame, with no border write, shows the beam's colour, and black
+ * is reported. */
+enum { ROM_BYTE = 0x5A };
+static void check_started(uint8_t colour) {
+    unsigned other_pixels = 0;
+    CHECK("ROM", ulb_machine_byte(&m, 0x3FFF), ROM_BYTE);
+    CHECK("RAM", ulb_machine_byte(&m, 0x4000), 0);
+    CHECK("beam colour", ulb_machine_beam_colour(&m), colour);
+    CHECK("reported border", ulb_machine_reported_border(&m), 0);
+    memset(m.border, 0xAA, sizeof m.border); /* so that a pixel left alone is seen */
+    CHECK("wait", ulb_machine_wait(&m, 60000).refusal, ULB_OK);
+    CHECK("closes", ulb_machine_wait(&m, ulb_machine_frame_length(&m) - 60000).closed, true);
+    for (size_t i = 0; i < sizeof m.border; i++) other_pixels += m.border[i] != colour;
+    CHECK("pixels of another colour", other_pixels, 0);
+}
+
+/* The wrapper's starts: the first and again, in black and in a colour. One that is refused writes nothing. */
+static void starts(uint32_t kind) {
+    static uint8_t rom[ULB_ROM_BYTES_128K];
+    size_t rom_len = kind == ULB_48K ? ULB_ROM_BYTES_48K : ULB_ROM_BYTES_128K;
+    memset(rom, ROM_BYTE, sizeof rom);
+    memset(&m, 0xAA, sizeof m);
+    memcpy(&other, &m, sizeof m);
+    CHECK("no such kind", ulb_machine_init_colour(&m, 2, rom, rom_len - 1, 8), ULB_BAD_MACHINE);
+    CHECK("a short ROM", ulb_machine_init_colour(&m, kind, rom, rom_len - 1, 8), ULB_BAD_LENGTH);
+    CHECK("colour 8", ulb_machine_init_colour(&m, kind, rom, rom_len, 8), ULB_BAD_NUMBER);
+    CHECK("colour 256", ulb_machine_init_colour(&m, kind, rom, rom_len, 256), ULB_BAD_NUMBER);
+    CHECK("nothing was written", memcmp(&m, &other, sizeof m), 0);
+
+    CHECK("init", ulb_machine_init(&m, kind, rom, rom_len), ULB_OK);
+    check_started(0);
+    for (uint8_t colour = 0; colour < 8; colour++) {
+        CHECK("init in a colour", ulb_machine_init_colour(&m, kind, rom, rom_len, colour), ULB_OK);
+        check_started(colour);
+        ulb_machine_set_tape(&m, false);
+        CHECK("restart in another", ulb_machine_restart_colour(&m, 7u - colour), ULB_OK);
+        CHECK("the devices stay", m.devices[24], 0);
+        check_started(7 - colour);
+        memcpy(&other, &m, sizeof m);
+        CHECK("restart in colour 8", ulb_machine_restart_colour(&m, 8), ULB_BAD_NUMBER);
+        CHECK("restart in colour 80000007h", ulb_machine_restart_colour(&m, 0x80000007), ULB_BAD_NUMBER);
+        CHECK("all stays", memcmp(&m, &other, sizeof m), 0);
+        CHECK("restart", ulb_machine_restart(&m), ULB_OK);
+        check_started(0);
+    }
 }
 
 int main(void) {
@@ -160,6 +208,8 @@ int main(void) {
     CHECK("ROM 0", ulb_machine_byte(&m, 0), filling(8, 0));
     SAME(&m, 1);
 
+    starts(ULB_48K);
+    starts(ULB_128K);
     printf("map: %u checks, %u failed\n", checks, failures);
     return failures != 0;
 }

@@ -19,7 +19,7 @@ enum { WRONG_LIMIT = 1, WRONG_ORDER, WRONG_COVERAGE, WRONG_SLICE, WRONG_WRITE };
 
 /* The refusals of each call, as ulb.h lists them. */
 static const char *const gives[KINDS] = {
-    [START] = "12",
+    [START] = "12", [START_COLOUR] = "128",
     [WAIT_INTERNAL] = "2356", [WAIT_MREQ] = "2356", [WAIT_NO_MREQ] = "2356", [READ_IO] = "2346", [WRITE_IO] = "2346",
     [READ_INTERNAL] = "23", [WRITE_INTERNAL] = "23", [WRITE_7FFD] = "23", [READ_7FFD] = "23", [INT_ACTIVE] = "23",
     [FRAMES_COUNT] = "23", [RESET_FRAME_COUNTER] = "23", [LOAD_PAGE] = "237", [SAVE_SCR] = "23",
@@ -37,8 +37,11 @@ static const unsigned number_of[CAUSES] = {1, 2, 3, 2, 4, 5, 6, 7, 9, 8};
 /* Numbers by their limits: the last that is accepted, and the first that is not; of video pages one that is, and one
  * that is not. `machine` is 2 where both agree. */
 static const struct { call_kind from, to; cause why; unsigned machine; uint32_t accepted, refused; } limits[] = {
-    {START, START, MACHINE, 0, 0, 2},
-    {START, START, MACHINE, 1, 1, 2},
+    {START, START_COLOUR, MACHINE, 0, 0, 2},
+    {START, START_COLOUR, MACHINE, 1, 1, 2},
+    {START_COLOUR, START_COLOUR, RANGE, 2, 7, 8},
+    {START_COLOUR, START_COLOUR, RANGE, 2, 0, 256}, /* the whole number counts */
+    {START_COLOUR, START_COLOUR, RANGE, 2, 7, 0x80000007},
     {WAIT_INTERNAL, WAIT_NO_MREQ, LONG_WAIT, 2, 65535, 65536},
     {WAIT_INTERNAL, WRITE_IO, FRAMES_FULL, 2, 4294967294u, 4294967295u},
     {LOAD_PAGE, LOAD_PAGE, PAGE, 0, 2, 3},
@@ -108,7 +111,7 @@ static void put(uint8_t *p, unsigned size, uint32_t v) {
 }
 
 static attempt good(call_kind k) {
-    attempt t = {{k, {0}, 0, 0x7FFD, 0}, {'U', 'L', 'B', 1}, {0}};
+    attempt t = {{k, {0}, 0, 0, 0x7FFD, 0}, {'U', 'L', 'B', 1}, {0}};
     t.state[5] = (uint8_t)machine;
     put(t.state + 6, 4, 20000); /* in the picture: blocks to paint, border behind the beam */
     memset(t.devices, 255, sizeof t.devices);
@@ -116,7 +119,7 @@ static attempt good(call_kind k) {
     t.devices[24] = 0;
     for (slice s = STATE; s < SLICES; s++)
         if (lends(k, s)) t.c.length[s] = right(k, s);
-    if (k == START) t.c.number = machine;
+    if (is_start(k)) t.c.number = machine;
     if (k == LOAD_SCR && machine == 1) t.c.number = 7;
     if (k == ATTR_ROW_REL || k == ATTR_COL_REL) t.c.number = 0x1900;
     return t;
@@ -125,7 +128,8 @@ static attempt good(call_kind k) {
 static void failed(const char *what, unsigned got, unsigned want) {
     const attempt *t = under_way;
     failures++;
-    printf("%s: %s: got %u, want %u\n  number %lu; lengths", shapes[t->c.kind].name, what, got, want, (unsigned long)t->c.number);
+    printf("%s: %s: got %u, want %u\n  number %lu, colour %lu; lengths", shapes[t->c.kind].name, what, got, want,
+           (unsigned long)t->c.number, (unsigned long)t->c.colour);
     for (slice s = STATE; s < SLICES; s++)
         if (lends(t->c.kind, s)) printf(" %s %zu", slice_names[s], t->c.length[s]);
     printf("; record");
@@ -192,6 +196,7 @@ static void spoil(attempt *t, spoiler s) {
         case UNSOUND: put(t->state + 6, 4, s.value); break;
         case FLAG: t->devices[s.where] = (uint8_t)s.value; break;
         case FRAMES_FULL: put(t->state + 10, 4, s.value); break;
+        case RANGE: *(t->c.kind == START_COLOUR ? &t->c.colour : &t->c.number) = s.value; break;
         default: t->c.number = s.value;
     }
 }
@@ -244,13 +249,13 @@ static void try_records(call_kind k) {
         put(t.state + 15, 2, places[i].painted);
         t.state[20] = (uint8_t)places[i].blocked;
         put(t.state + 21, 2, places[i].pairs);
-        try_it(&t, places[i].sound || k == START ? 0 : 3);
+        try_it(&t, places[i].sound || is_start(k) ? 0 : 3);
     }
     for (size_t i = 0; i < sizeof bytes / sizeof *bytes; i++) {
         if (bytes[i].machine == 1 - machine) continue;
         attempt t = good(k);
         t.state[bytes[i].at] = (uint8_t)bytes[i].value;
-        try_it(&t, bytes[i].sound || k == START ? 0 : 3);
+        try_it(&t, bytes[i].sound || is_start(k) ? 0 : 3);
     }
 }
 
@@ -262,7 +267,7 @@ enum { MOST_CAUSES = 2 * SLICES + sizeof limits / sizeof *limits + CAUSES };
 static unsigned all_causes(call_kind k, spoiler out[MOST_CAUSES]) {
     unsigned n = 0;
     for (cause w = MACHINE; w < CAUSES; w++) {
-        if (w == UNSOUND && lends(k, STATE) && k != START) out[n++] = (spoiler){w, 0, clock_of[machine][FRAME]};
+        if (w == UNSOUND && lends(k, STATE) && !is_start(k)) out[n++] = (spoiler){w, 0, clock_of[machine][FRAME]};
         if (w == FLAG && lends(k, DEVICES)) out[n++] = (spoiler){w, 24, 2};
         for (slice s = STATE; s < SLICES; s++)
             for (int by = -1; by < 2; by += 2)

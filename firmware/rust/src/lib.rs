@@ -229,15 +229,24 @@ impl Machine {
         Box::new(Machine::new())
     }
 
-    /// Takes a copy of the ROM and starts. The devices stay as they are. Refused if the ROM has another length.
+    /// Takes a copy of the ROM and starts, with a black border. The devices stay as they are. Refused if the ROM has
+    /// another length.
     pub fn start(&mut self, kind: Kind, rom: &[u8]) -> Result<(), Refusal> {
+        self.start_colour(kind, rom, 0)
+    }
+
+    /// The same in a beam colour 0..7: for a capture bench whose stored first frames begin white, which asks for 7. The
+    /// border that is reported is 0 whatever the colour. Refused, with nothing changed, if the ROM has another length,
+    /// and then with [`Refusal::BadNumber`] if the colour is above 7.
+    pub fn start_colour(&mut self, kind: Kind, rom: &[u8], colour: u32) -> Result<(), Refusal> {
         if rom.len() != kind.rom_bytes() {
             return Err(Refusal::BadLength);
         }
         let ram = kind.ram_bytes();
         accepted(unsafe {
-            raw::ulb_start(self.state.as_mut_ptr(), 23, self.memory.ram_mut(), ram, self.a.as_mut_ptr(), PICTURE_BYTES,
-                self.b.as_mut_ptr(), PICTURE_BYTES, self.border.as_mut_ptr(), BORDER_BYTES, kind as u32)
+            raw::ulb_start_colour(self.state.as_mut_ptr(), 23, self.memory.ram_mut(), ram, self.a.as_mut_ptr(),
+                PICTURE_BYTES, self.b.as_mut_ptr(), PICTURE_BYTES, self.border.as_mut_ptr(), BORDER_BYTES, kind as u32,
+                colour)
         })?;
         self.kind = kind;
         for (page, bytes) in self.memory.0.iter_mut().zip(rom.chunks_exact(PAGE_BYTES)) {

@@ -1,8 +1,8 @@
 //! The functions of `include/ulb.h`, as they are. A slice is a pointer and its length.
 
 macro_rules! calls {
-    ($($name:ident($($arg:ident: $kind:ty),*);)*) => {
-        extern "C" { $(pub fn $name($($arg: $kind),*) -> u8;)* }
+    ($($(#[$note:meta])* $name:ident($($arg:ident: $kind:ty),*);)*) => {
+        extern "C" { $($(#[$note])* pub fn $name($($arg: $kind),*) -> u8;)* }
     };
 }
 
@@ -10,8 +10,11 @@ type In = *const u8;
 type Out = *mut u8;
 
 calls! {
+    #[allow(dead_code)] // it is ulb_start_colour with 0, by which the layer starts
     ulb_start(state: Out, state_len: usize, ram: Out, ram_len: usize, a: Out, a_len: usize, b: Out, b_len: usize,
         border: Out, border_len: usize, machine: u32);
+    ulb_start_colour(state: Out, state_len: usize, ram: Out, ram_len: usize, a: Out, a_len: usize, b: Out, b_len: usize,
+        border: Out, border_len: usize, machine: u32, colour: u32);
     ulb_wait_internal(state: Out, state_len: usize, ram: In, ram_len: usize, a: Out, a_len: usize, b: Out, b_len: usize,
         border: Out, border_len: usize, clocks: u32, answer: Out, answer_len: usize);
     ulb_wait_mreq(state: Out, state_len: usize, ram: In, ram_len: usize, a: Out, a_len: usize, b: Out, b_len: usize,

@@ -24,6 +24,64 @@ fn refusals() {
     assert_eq!(m.frame_clock(), 0);
 }
 
+/// The first frames after a start, with no border write in them: black, or in the colour that the start was given. In a
+/// record byte 18 is the reported border and byte 19 the beam colour.
+#[test]
+fn starts() {
+    for kind in [Kind::Spectrum48, Kind::Spectrum128] {
+        let rom = vec![0x55; kind.rom_bytes()];
+        let mut m = started(kind);
+        let black = *m.state();
+        assert_eq!((black[18], black[19], first_frames(&mut m)), (0, 0, 0));
+        for colour in 0..8 {
+            m.start_colour(kind, &rom, colour).unwrap();
+            let mut record = black;
+            record[19] = colour as u8;
+            assert_eq!(*m.state(), record);
+            assert!(m.border().iter().all(|&pixel| pixel == 0));
+            assert_eq!(u32::from(first_frames(&mut m)), colour);
+        }
+        m.start(kind, &rom).unwrap();
+        assert_eq!((*m.state(), first_frames(&mut m)), (black, 0));
+    }
+}
+
+/// The one colour of all border pixels of two frames.
+fn first_frames(m: &mut Machine) -> u8 {
+    let frame = m.kind().frame();
+    let colours = [0; 2].map(|_| {
+        assert!(!m.wait(60000).unwrap().closed);
+        assert!(m.wait(frame - 60000).unwrap().closed);
+        let colour = m.border()[0];
+        assert!(m.border().iter().all(|&pixel| pixel == colour));
+        colour
+    });
+    assert_eq!(colours[0], colours[1]);
+    colours[0]
+}
+
+/// A refused start changes nothing: neither kind nor record, nor any byte of memory.
+#[test]
+fn refused_starts() {
+    let mut m = filled(Kind::Spectrum48);
+    m.write_io(0x00FE, 5).unwrap();
+    assert!(m.wait(65535).unwrap().blocks > 0 && m.wait(4353).unwrap().closed);
+    let seen = |m: &Machine| {
+        let pictures = [&m.shown_picture().unwrap()[..], &m.border()[..], m.block(0).unwrap()].concat();
+        (m.kind(), *m.state(), ram(m), pictures)
+    };
+    let before = seen(&m);
+    for kind in [Kind::Spectrum48, Kind::Spectrum128] {
+        let rom = vec![0; kind.rom_bytes()];
+        for colour in [8, 255, 256, 0x8000_0007] {
+            assert_eq!(m.start_colour(kind, &rom, colour), Err(Refusal::BadNumber));
+            assert_eq!(m.start_colour(kind, &rom[1..], colour), Err(Refusal::BadLength));
+        }
+        assert_eq!(m.start(kind, &rom[1..]), Err(Refusal::BadLength));
+    }
+    assert!(seen(&m) == before);
+}
+
 /// Demand 3's sums over some frames, with border writes on the way.
 #[test]
 fn sums() {
@@ -60,7 +118,7 @@ fn memory_and_pictures() {
     assert!(m.wait(60000).unwrap().blocks == 6144);
     assert!(m.wait(20000).unwrap().closed);
     assert_eq!(m.shown_picture().unwrap()[..2], [15, 8]);
-    assert!(m.border().iter().all(|&pixel| pixel == 7));
+    assert!(m.border().iter().all(|&pixel| pixel == 0));
     let mut still = vec![0; PICTURE_BYTES];
     m.still_picture(&mut still, 0).unwrap();
     assert_eq!(&still[..], &m.shown_picture().unwrap()[..]);
