@@ -263,7 +263,11 @@ impl Machine {
         }
         let before = self.state;
         self.state = *state;
-        self.renew_map().inspect_err(|_| self.state = before) // its calls judge the record
+        let renewed = self.renew_map(); // its calls judge the record
+        if renewed.is_err() {
+            self.state = before;
+        }
+        renewed
     }
 
     pub fn wait(&mut self, clocks: u32) -> Result<Timed, Refusal> {
