@@ -312,7 +312,8 @@ static void lend_record(uint8_t bytes[23]) {
         craft(other, machine, true);
         if (chance(5) && !sound(other, &r)) memcpy(bytes, other, 23);
     } else if (!file_read && chance(50)) {
-        craft(bytes, chance(97) ? machine : 1 - machine, chance(12));
+        bool spoilt = chance(12); /* rolled by itself: compilers differ in which argument they take first */
+        craft(bytes, chance(97) ? machine : 1 - machine, spoilt);
     }
 }
 
