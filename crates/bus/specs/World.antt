@@ -59,7 +59,7 @@ busOf m w =
       pairs = w .edge .pairs;
     }
 
--- "Start clears RAM, pictures and border to 0 and writes a record of zeros but for mark, version, machine and beam colour"
+-- "Start clears RAM, pictures and border to 0 and writes a record .."
 unfoldable pub clearRam : ZXMachine → List ℕ
 clearRam m = replicate (specsOf m .ram) 0
 

@@ -223,7 +223,7 @@ held-bytes s b h e =
     let d = held-decode s b e in
     ap recordBytes (sym (d .2)) ∙ encode-decode s (d .0) h (d .1)
 
--- "a record of zeros but for mark, version, machine and beam colour", byte by byte; with colour 0 all behind the machine is 0
+-- a record of zeros but for mark, version, machine and the beam's colour, byte by byte
 pub start-bytes : (m : ZXMachine) (colour : ℕ)
     → recordBytes (startRecord m colour) ≡ (85 ∷ 76 ∷ 66 ∷ 1 ∷ 0 ∷ machineNumber m ∷ []) ++ replicate 13 0 ++ (colour ∷ []) ++ replicate 3 0
 start-bytes m colour = refl

@@ -163,8 +163,8 @@ soundBytes s = marked s && codesInRange s && soundBus (recordOf s)
 unfoldable pub heldBy : List ℕ → Held
 heldBy s = cond (eqb (length s) recordLength) (cond (soundBytes s) (Sound (recordOf s)) Unsound) WrongLength
 
--- "Start .. writes a record of zeros but for mark, version, machine and beam colour"; "Start shall set the beam colour to 0", and "a second start ..
--- takes the beam colour" (02, Q-3)
+-- "Start .. writes a record of zeros but for mark, version, machine and beam colour 7." In the place of the 7 stands the start's own colour: "Start shall
+-- set the beam colour to 0", and there is "a second start that takes the beam colour" (02, Q-3).
 abbrev pub startRecord : ZXMachine → ℕ → Bus
 startRecord m colour =
     record {
