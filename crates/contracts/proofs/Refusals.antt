@@ -30,7 +30,7 @@ use Rattle.judgement.specs.Judges.{numberFits, unless, noCauses, startCauses, w
 use Rattle.judgement.specs.Answers.{refusedAnswer, timedLength, numberLength}
 use Rattle.judgement.specs.Order.{Ordered, Numbered, documentOrder, numbersOf, standIn, allCauses}
 use Rattle.judgement.proofs.Order.{by-list, start-ordered, start-colour-ordered, state-ordered, wait-ordered, port-ordered, told-ordered, read-ordered, write-ordered, load-ordered, ram-page-ordered, block-ordered, shown-ordered, still-ordered, save-scr-ordered, load-scr-ordered}
-use Rattle.contracts.specs.Timed.{Lent, Outcome, timedCall, judgeWaitOf, judgePortOf, waitInternal, waitAt, readIo, writeIo, lentBy, begun, judgeStartOf, start, startColour}
+use Rattle.contracts.specs.Timed.{Lent, Outcome, timedCall, judgeWaitOf, judgePortOf, waitInternal, waitAt, readIo, writeIo, lentBy, begun, judgeStartOf, black, start, startColour}
 use Rattle.contracts.specs.Plain.{codeOf, Told, told, tell, Changed, change, Repaged, repage, readInternal, writeInternal, write7ffdCall, read7ffd, intActive, framesCount, resetFrames, loadPage, saveScr, loadScr, stillPicture, ramPageTold, blockTold, shownTold}
 use Rattle.contracts.specs.Calls.{plainStart, colourStart, startCausesOf, helperCauses}
 use Rattle.contracts.specs.Helpers.{help, helperCall, colourHelped, bitmapLineAddr, bitmapLineRel, bitmapColRel, attrRowRel, attrColRel, colorFromBits}
@@ -308,7 +308,7 @@ module _ (l : Lent) (machine : ℕ) where
   start-code colour = begun-code l (newLent colour) (judgeStartOf l machine colour)
 
   pub start-numbered : Numbered (start l machine .code) (startCausesOf (plainStart machine) l)
-  start-numbered = numbered (judgeStartOf l machine 0) _ _ _ (start-code 0) (start-ordered (length (l .state)) (length (l .ram)) (length (l .a)) (length (l .b)) (length (l .border)) machine)
+  start-numbered = numbered (judgeStartOf l machine black) _ _ _ (start-code black) (start-ordered (length (l .state)) (length (l .ram)) (length (l .a)) (length (l .b)) (length (l .border)) machine black refl)
 
   pub start-colour-numbered : (colour : ℕ) → Numbered (startColour l machine colour .code) (startCausesOf (colourStart machine colour) l)
   start-colour-numbered colour =
@@ -320,7 +320,7 @@ module _ (l : Lent) (machine : ℕ) where
   start-colour-unaltered colour n = begun-kept l (newLent colour) (judgeStartOf l machine colour) n
 
   pub start-unaltered : (start l machine .code ≡ 0 → ⊥) → start l machine .slices ≡ l
-  start-unaltered n = start-colour-unaltered 0 n
+  start-unaltered n = start-colour-unaltered black n
 
 -- ---- the helpers
 -- a helper that answers within its range only

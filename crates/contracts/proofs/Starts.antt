@@ -9,7 +9,7 @@ use Rattle.record.specs.declared.Bus.{Bus}
 use Rattle.record.specs.Record.{recordOf, machineOf, startRecord}
 use Rattle.record.proofs.Round.{held-decode, start-held}
 use Rattle.bus.specs.World.{started}
-use Rattle.contracts.specs.Timed.{Lent, lentBy, judgeStartOf, start, startColour}
+use Rattle.contracts.specs.Timed.{Lent, lentBy, judgeStartOf, black, start, startColour}
 use Rattle.contracts.specs.Calls.{Start, plainStart, colourStart, askedMachine, firstColour, startedBy}
 use Rattle.contracts.proofs.Refusals.{begun-left, start-colour-numbered}
 
@@ -24,12 +24,12 @@ module _ (l : Lent) (machine colour : ℕ) (z : startColour l machine colour .co
 -- THE BUFFERS of its machine as it begins, in its colour
 pub start-left : (how : Start) (l : Lent) → startedBy how l .code ≡ 0
     → startedBy how l .slices ≡ lentBy (machineOf (askedMachine how)) (started (machineOf (askedMachine how)) (firstColour how))
-start-left (plainStart machine) l z = colour-left l machine 0 z
+start-left (plainStart machine) l z = colour-left l machine black z
 start-left (colourStart machine colour) l z = colour-left l machine colour z
 
 -- which is one of eight
 pub first-small : (how : Start) (l : Lent) → startedBy how l .code ≡ 0 → firstColour how < 8
-first-small (plainStart machine) l z = omega arith
+first-small (plainStart machine) l z = colour-small l machine black z
 first-small (colourStart machine colour) l z = colour-small l machine colour z
 
 -- THE RECORD that it writes
@@ -50,4 +50,4 @@ colour-taken l machine colour z =
 -- "Start shall set the beam colour to 0, as the reported border already is."
 pub start-is-black : (l : Lent) (machine : ℕ) → start l machine .code ≡ 0
     → (recordOf (start l machine .slices .state) .colour ≡ 0) × (recordOf (start l machine .slices .state) .reported ≡ 0)
-start-is-black l machine z = colour-taken l machine 0 z
+start-is-black l machine z = colour-taken l machine black z

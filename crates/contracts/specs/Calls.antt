@@ -20,7 +20,7 @@ use Rattle.judgement.specs.Refusals.{Cause, cause}
 use Rattle.judgement.specs.Judges.{numberFits, unless, noCauses, startCauses, startColourCauses, waitCauses, portCauses, toldCauses, readCauses, writeCauses, loadCauses, ramPageCauses, blockCauses, shownCauses, stillCauses, saveScrCauses, loadScrCauses}
 use Rattle.judgement.specs.Answers.{timedLength, numberLength, refusedAnswer}
 use Rattle.judgement.specs.Order.{allCauses}
-use Rattle.contracts.specs.Timed.{Lent, Outcome, Started, start, startColour, waitInternal, waitAt, readIo, writeIo}
+use Rattle.contracts.specs.Timed.{Lent, Outcome, Started, black, start, startColour, waitInternal, waitAt, readIo, writeIo}
 use Rattle.contracts.specs.Plain.{Told, told, readInternal, writeInternal, write7ffdCall, read7ffd, intActive, framesCount, resetFrames, loadPage, saveScr, loadScr, stillPicture, ramPageTold, blockTold, shownTold}
 use Rattle.contracts.specs.Helpers.{helperCall, colourHelped}
 
@@ -94,7 +94,7 @@ askedMachine (plainStart machine) = machine
 askedMachine (colourStart machine colour) = machine
 
 abbrev pub firstColour : Start → ℕ
-firstColour (plainStart machine) = 0
+firstColour (plainStart machine) = black
 firstColour (colourStart machine colour) = colour
 
 abbrev pub startedBy : Start → Lent → Started

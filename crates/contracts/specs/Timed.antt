@@ -110,5 +110,8 @@ unfoldable pub startColour : Lent → ℕ → ℕ → Started
 startColour l machine colour = begun l (lentBy (machineOf machine) (started (machineOf machine) colour)) (judgeStartOf l machine colour)
 
 -- ulb_start: "Start shall set the beam colour to 0, as the reported border already is" (02, Q-3)
+abbrev pub black : ℕ
+black = 0
+
 abbrev pub start : Lent → ℕ → Started
-start l machine = startColour l machine 0
+start l machine = startColour l machine black
