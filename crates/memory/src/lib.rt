@@ -7,7 +7,7 @@ ghost use lib.ListN.{length};
 ghost use Rattle.machine.specs.Numbers.{specsOf};
 ghost use Rattle.machine.specs.Limits.{pageLength};
 ghost use Rattle.memory.specs.Paging.{pageAt, shownPage, addrContended, write7ffd, pagedCode, pagingAfter, lastPage, pageExists};
-ghost use Rattle.memory.specs.Memory.{placeOf, peeked, poked, Holds, pagePart, ramPage, partStart, loaded};
+ghost use Rattle.memory.specs.Memory.{placeOf, peeked, poked, Holds, pagePart, ramPage, partStart, stored, loaded};
 ghost use Rattle.memory.specs.Screens.{screenLength, screenFile, videoPage};
 use machine::ZXMachine;
 
@@ -218,14 +218,22 @@ fn rom_size(m: ZXMachine) -> u32
     }
 }
 
+// Bytes put into a slice from a place on.
+pub fn put(dst: &mut [u8], at: usize, src: &[u8])
+    requires { ⌜ at + length (now src) ≤ length (now dst) ⌝ }
+    ensures { λ _. ⌜ now (dst .exit) ≡ stored at (now (src .entry)) (now (dst .entry)) ⌝ }
+{
+    let end = at + src.len();
+    bytes::copy(src, &mut dst[at..end]);
+}
+
 // Bytes loaded into a RAM page from its first byte on: a whole page, or a screen file.
 pub fn load(ram: &mut [u8], page: u32, src: &[u8])
     requires { ⌜ pageLength * page + length (now src) ≤ length (now ram) ⌝ }
     ensures { λ _. ⌜ now (ram .exit) ≡ loaded page (now (src .entry)) (now (ram .entry)) ⌝ }
 {
     let at = machine::PAGE_LENGTH * page as usize;
-    let end = at + src.len();
-    bytes::copy(src, &mut ram[at..end]);
+    put(ram, at, src);
 }
 
 // Whether a page of the machine is one that its screen may show: refusal 9 where not.

@@ -1,11 +1,8 @@
--- The middle of RAM is lent to the copy and comes back as the source: `load-is`.
-use Rattle.memory.proofs.Parts.{load-is}
+-- The middle of the slice is lent to the copy and comes back as the source: `put-is`.
+use Rattle.memory.proofs.Parts.{put-is}
 use borrow.Author.Needs.{needs}
-use Rattle.memory.proofs.load.Statement.{statement}
-use Rattle.memory.proofs.load.Tie as tie
-
-mul-at : tie.Need-mul-at
-mul-at c = search needs
+use Rattle.memory.proofs.put.Statement.{statement}
+use Rattle.memory.proofs.put.Tie as tie
 
 add-end : tie.Need-add-end
 add-end c = search needs
@@ -26,13 +23,12 @@ same-length : tie.Need-same-length
 same-length c = search needs
 
 returns : tie.Need-returns
-returns c = let s = c .before .before .before .before .before .before in load-is (s .args .page) (s .args .ram .now) (s .args .src .now) (c .before .before .copy .last .1 .0) (s .pre) (c .before .before .copy .ensures .1)
+returns c = let s = c .before .before .before .before .before .before in put-is (s .args .at) (s .args .dst .now) (s .args .src .now) (c .before .before .copy .last .1 .0) (s .pre) (c .before .before .copy .ensures .1)
 
-pub load-spec : {M : Type 1} → statement M
-load-spec =
+pub put-spec : {M : Type 1} → statement M
+put-spec =
     tie.close
     (tie.spec
-    mul-at
     add-end
     sub-copy
     part-copy-start
