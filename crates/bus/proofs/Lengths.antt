@@ -13,11 +13,13 @@ use Rattle.machine.specs.declared.BorderPlace.the-variants.{At, FrameEnd}
 use Rattle.machine.specs.Numbers.{specsOf}
 use Rattle.machine.specs.Limits.{pictureLength, borderLength}
 use Rattle.machine.specs.Timing.{borderAt}
+use Rattle.record.specs.declared.Bus.{Bus}
+use Rattle.record.specs.Record.{startRecord}
 use Rattle.paint.proofs.Painting.{length-paint}
 use Rattle.border.specs.Edge.{Edge, inked, inkedAt, finished}
 use Rattle.border.proofs.Fills.{length-filled}
 use Rattle.memory.specs.Memory.{ramPage}
-use Rattle.bus.specs.World.{Core, Screen, World, clearRam, clearPicture, clearBorder, started, Sized}
+use Rattle.bus.specs.World.{Core, Screen, World, clearRam, clearPicture, clearBorder, beginning, started, Sized}
 use Rattle.bus.specs.Time.{Look, Silent, store, paged, unpass, lasts, Op, step, colour, silent, ramLeft, closes, lookAt, showsA, paintFrom, caughtUp, inCore, inScreen, inEdge, does, worldAfter}
 use Rattle.bus.specs.Turns.{fresh, Part, ranBy}
 use Rattle.bus.proofs.Runs.{ran-world}
@@ -89,13 +91,17 @@ module _ (m : ZXMachine) where
   pub call-lengths : (f : Part) (w : World) → SameLengths w (ranBy f (fresh m w) .world)
   call-lengths f w = subst (SameLengths w) (sym (ran-world (f (w .core)) (fresh m w))) (run-lengths (f (w .core)) w)
 
--- A start's memory has the lengths that document 01 states.
-pub started-sized : (m : ZXMachine) (first : ℕ) → Sized m (started m first)
-unfolding clearRam clearPicture clearBorder
-started-sized m first =
+-- Cleared pictures and border have the lengths that document 01 states, and so has a start's RAM.
+pub beginning-sized : (m : ZXMachine) (bus : Bus) (ram : List ℕ) → length ram ≡ specsOf m .ram → Sized m (beginning bus ram)
+unfolding clearPicture clearBorder
+beginning-sized m bus ram long =
     record {
-      ram = length-replicate {A = ℕ} (specsOf m .ram) 0;
+      ram = long;
       a = length-replicate {A = ℕ} pictureLength 0;
       b = length-replicate {A = ℕ} pictureLength 0;
       pixels = length-replicate {A = ℕ} borderLength 0;
     }
+
+pub started-sized : (m : ZXMachine) (first : ℕ) → Sized m (started m first)
+unfolding clearRam
+started-sized m first = beginning-sized m (startRecord m first) (clearRam m) (length-replicate {A = ℕ} (specsOf m .ram) 0)

@@ -69,9 +69,14 @@ clearPicture = replicate pictureLength 0
 unfoldable pub clearBorder : List ℕ
 clearBorder = replicate borderLength 0
 
+-- the world of a record and a RAM, with pictures and border cleared: what a start leaves, and what an import leaves, which "clears pictures and border as a
+-- start does" (02, Q-4)
+abbrev pub beginning : Bus → List ℕ → World
+beginning bus ram = worldOf bus ram clearPicture clearPicture clearBorder
+
 -- the world that a start with a colour leaves
 abbrev pub started : ZXMachine → ℕ → World
-started m colour = worldOf (startRecord m colour) (clearRam m) clearPicture clearPicture clearBorder
+started m colour = beginning (startRecord m colour) (clearRam m)
 
 -- the memory of a machine has the lengths that document 01 gives it
 pub record Sized (m : ZXMachine) (w : World) : Type 0 where

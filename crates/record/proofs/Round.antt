@@ -22,9 +22,9 @@ use Rattle.machine.proofs.Rising.{border-small}
 use Rattle.record.specs.declared.Bus.{Bus}
 use Rattle.record.specs.declared.Held.the-variants as held
 use Rattle.record.specs.Words.{byteAt, wordAt, longAt, Bytes}
-use Rattle.record.specs.Record.{machineNumber, machineOf, flagByte, recordBytes, recordLength, advanced, recordOf, versionAt, machineAt, clockAt, passedAt, paintedAt, blockedAt, pairsAt, marked, codesInRange, soundBus, soundBytes, heldBy, startRecord}
+use Rattle.record.specs.Record.{machineNumber, machineOf, flagByte, recordBytes, recordLength, advanced, recordOf, versionAt, machineAt, clockAt, passedAt, paintedAt, blockedAt, pairsAt, marked, codesInRange, soundBus, soundBytes, heldBy, freshRecord, startRecord}
 use Rattle.record.specs.Sound.{Sound}
-use Rattle.record.proofs.Soundness.{sound-facts, start-sound}
+use Rattle.record.proofs.Soundness.{sound-facts, facts-sound, start-sound}
 
 -- the fields fit the widths that document 01 gives them, as those of every record in code do
 pub record Fitting (b : Bus) : Type 0 where
@@ -228,7 +228,11 @@ pub start-bytes : (m : ZXMachine) (colour : ℕ)
     → recordBytes (startRecord m colour) ≡ (85 ∷ 76 ∷ 66 ∷ 1 ∷ 0 ∷ machineNumber m ∷ []) ++ replicate 13 0 ++ (colour ∷ []) ++ replicate 3 0
 start-bytes m colour = refl
 
--- What a start writes is held as the start's record.
+-- A fresh record that is written is held as that record; so is a start's.
+pub fresh-held : (m : ZXMachine) (paging reported colour : ℕ) → Sound (freshRecord m paging reported colour)
+    → heldBy (recordBytes (freshRecord m paging reported colour)) ≡ held.Sound (freshRecord m paging reported colour)
+fresh-held m paging reported colour f = held-encode (freshRecord m paging reported colour) (facts-sound (freshRecord m paging reported colour) f)
+
 pub start-held : (m : ZXMachine) (colour : ℕ) → colour < 8 → heldBy (recordBytes (startRecord m colour)) ≡ held.Sound (startRecord m colour)
 start-held m colour h = held-encode (startRecord m colour) (start-sound m colour h)
 

@@ -13,8 +13,9 @@ use Rattle.machine.specs.declared.ZXMachine.{ZXMachine}
 use Rattle.machine.specs.declared.ZXMachine.the-variants.{Sinclair48K, Sinclair128K}
 use Rattle.machine.specs.Numbers.{specsOf}
 use Rattle.machine.specs.Timing.{blocksAt, blockPosition, borderAt, borderPosition, frameEnd}
+use Rattle.machine.proofs.Numbered.{regular}
 use Rattle.record.specs.declared.Bus.{Bus}
-use Rattle.record.specs.Record.{lastFrame, clockInFrame, paintedInPlace, pairsInPlace, blockedAtEnd, pagingAllowed, soundBus, startRecord}
+use Rattle.record.specs.Record.{lastFrame, clockInFrame, paintedInPlace, pairsInPlace, blockedAtEnd, pagingAllowed, soundBus, freshRecord, startRecord}
 use Rattle.record.specs.Sound.{Sound}
 
 -- a blocked beam is at frame end, with pairs 0
@@ -88,8 +89,24 @@ facts-sound b f =
       allowed-if (b .machine) (b .paging) (f .unpaged),
     )
 
--- A start's record is sound, on each machine and with each colour.
+-- A FRESH RECORD IS SOUND, on each machine, whatever it was given within its range: a 7FFD byte is 0 on 48K.
+pub fresh-facts : (m : ZXMachine) (paging reported colour : ℕ) → paging < 256 → reported < 8 → colour < 8 → (m ≡ Sinclair48K → paging ≡ 0)
+    → Sound (freshRecord m paging reported colour)
+fresh-facts m paging reported colour p r k u =
+    record {
+      passed = omega arith;
+      phase = omega arith;
+      paging = p;
+      reported = r;
+      colour = k;
+      clock = omega (arith, regular m .borderInFrame);
+      painted = omega arith;
+      pairs = omega arith;
+      atEnd = λ e. absurd (false≢true e);
+      noPairs = λ e. refl;
+      unpaged = u;
+    }
+
+-- so is a start's
 pub start-sound : (m : ZXMachine) (colour : ℕ) → colour < 8 → soundBus (startRecord m colour) ≡ true
-unfolding soundBus blocksAt borderAt
-start-sound Sinclair48K colour h = rw (lt-ltb colour 8 h)
-start-sound Sinclair128K colour h = rw (lt-ltb colour 8 h)
+start-sound m colour h = facts-sound (startRecord m colour) (fresh-facts m 0 0 colour (omega arith) (omega arith) h (λ e. refl))

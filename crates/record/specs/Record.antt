@@ -163,22 +163,27 @@ soundBytes s = marked s && codesInRange s && soundBus (recordOf s)
 unfoldable pub heldBy : List ℕ → Held
 heldBy s = cond (eqb (length s) recordLength) (cond (soundBytes s) (Sound (recordOf s)) Unsound) WrongLength
 
--- "Start .. writes a record of zeros but for mark, version, machine and beam colour 7." In the place of the 7 stands the start's own colour: "Start shall
--- set the beam colour to 0", and there is "a second start that takes the beam colour" (02, Q-3).
-abbrev pub startRecord : ZXMachine → ℕ → Bus
-startRecord m colour =
+-- A fresh record: zeros but for mark, version and machine, and for what is handed in: the 7FFD byte, the reported border and the beam's colour. An import
+-- writes "a fresh record with border, paging and lock" (02, Q-4).
+abbrev pub freshRecord : ZXMachine → ℕ → ℕ → ℕ → Bus
+freshRecord m paging reported colour =
     record {
       machine = m;
       clock = 0;
       passed = 0;
       phase = 0;
       painted = 0;
-      paging = 0;
-      reported = 0;
+      paging = paging;
+      reported = reported;
       colour = colour;
       blocked = false;
       pairs = 0;
     }
+
+-- "Start .. writes a record of zeros but for mark, version, machine and beam colour 7." In the place of the 7 stands the start's own colour: "Start shall
+-- set the beam colour to 0", and there is "a second start that takes the beam colour" (02, Q-3).
+abbrev pub startRecord : ZXMachine → ℕ → Bus
+startRecord m colour = freshRecord m 0 0 colour
 
 -- the record with one field changed: another 7FFD byte, and other passed frames
 abbrev pub withPaging : ℕ → Bus → Bus

@@ -6,7 +6,7 @@ ghost use Prim.Native.Nat.{_+_, _≤_};
 ghost use lib.ListN.{length};
 ghost use mathlib.Core.Bool.{_&&_};
 ghost use Rattle.record.specs.Words.{le16, le32, wordAt, longAt};
-ghost use Rattle.record.specs.Record.{recordLength, machineNumber, machineOf, flagByte, recordOf, recordBytes, advanced, marked, codesInRange, inRange, paintedInPlace, pairsInPlace, blockedAtEnd, pagingAllowed, soundBus, heldBy, startRecord};
+ghost use Rattle.record.specs.Record.{recordLength, machineNumber, machineOf, flagByte, recordOf, recordBytes, advanced, marked, codesInRange, inRange, paintedInPlace, pairsInPlace, blockedAtEnd, pagingAllowed, soundBus, heldBy, freshRecord, startRecord};
 use machine::ZXMachine;
 
 // The state of the bus between two calls.
@@ -271,9 +271,9 @@ pub fn look(s: &[u8]) -> Held
     }
 }
 
-// The record that a start writes: the beam has the start's colour, and the border that is reported is 0 all the same.
-pub fn start_record(machine: ZXMachine, colour: u8) -> Bus
-    ensures { λ r. ⌜ r ≡ startRecord machine colour ⌝ }
+// A fresh record: about to begin a frame, with what a start or a snapshot gives.
+pub fn fresh_record(machine: ZXMachine, paging: u8, reported: u8, colour: u8) -> Bus
+    ensures { λ r. ⌜ r ≡ freshRecord machine paging reported colour ⌝ }
 {
     Bus {
         machine,
@@ -281,10 +281,17 @@ pub fn start_record(machine: ZXMachine, colour: u8) -> Bus
         passed: 0,
         phase: 0,
         painted: 0,
-        paging: 0,
-        reported: 0,
+        paging,
+        reported,
         colour,
         blocked: false,
         pairs: 0,
     }
+}
+
+// The record that a start writes: the beam has the start's colour, and the border that is reported is 0 all the same.
+pub fn start_record(machine: ZXMachine, colour: u8) -> Bus
+    ensures { λ r. ⌜ r ≡ startRecord machine colour ⌝ }
+{
+    fresh_record(machine, 0, 0, colour)
 }
