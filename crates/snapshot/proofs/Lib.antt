@@ -1,0 +1,10 @@
+pub mod Leaves
+pub mod Laid
+pub mod Order
+pub mod Made
+pub mod Round
+pub mod Front
+pub mod Reading
+pub mod Registers
+pub mod Writing
+pub mod Exported

@@ -1,0 +1,3 @@
+pub mod File
+pub mod Kept
+pub mod Written
