@@ -7,7 +7,7 @@ use mathlib.Core.Path.{_≡_, refl, ap}
 use Rattle.judgement.specs.Order.{Numbered}
 use Rattle.contracts.specs.Timed.{Lent}
 use Rattle.contracts.specs.Plain.{told}
-use Rattle.contracts.specs.Calls.{Start, plainStart, colourStart, startedBy, startCausesOf, TimedCall, plain, mreq, noMreq, portIn, portOut, Helper, lineAddr, lineOf, columnOf, attrRowOf, attrColumnOf, colourBits, Question, byteRead, pagingRead, interruptAsked, framesAsked, pageAsked, blockAsked, shownAsked, stillAsked, fileAsked, help, Call, startAgain, takeTime, writeByte, writePaging, resetPassed, loadRam, loadScreen, ask, Result, result, withRam, withState, waited, helpedBy, replied, performed, timedCauses, helperRange, helperCauses, questionCauses, causesOf, refusedReply, refusedFilled}
+use Rattle.contracts.specs.Calls.{Start, plainStart, colourStart, snapshotStart, startedBy, lentToFill, filledBy, startCausesOf, TimedCall, plain, mreq, noMreq, portIn, portOut, Helper, lineAddr, lineOf, columnOf, attrRowOf, attrColumnOf, colourBits, Question, byteRead, pagingRead, interruptAsked, framesAsked, pageAsked, blockAsked, shownAsked, stillAsked, fileAsked, snapshotAsked, help, Call, startAgain, takeTime, writeByte, writePaging, resetPassed, loadRam, loadScreen, ask, Result, result, withRam, withState, waited, helpedBy, replied, performed, timedCauses, helperRange, helperCauses, questionCauses, causesOf, refusedReply, refusedFilled}
 use Rattle.contracts.specs.Helpers.{helperCall}
 use Rattle.contracts.proofs.Refusals as refusals
 
@@ -39,11 +39,13 @@ reply-numbered (blockAsked rom block) l answer = refusals.block-numbered (l .sta
 reply-numbered shownAsked l answer = refusals.shown-picture-numbered (l .state) (l .a) (l .b) answer
 reply-numbered (stillAsked flash) l picture = refusals.still-picture-numbered (l .state) (l .ram) picture flash
 reply-numbered fileAsked l file = refusals.save-scr-numbered (l .state) (l .ram) file
+reply-numbered (snapshotAsked registers) l file = refusals.save-sna-numbered (l .state) (l .ram) file registers
 reply-numbered (help h n) l answer = helped-numbered h n answer
 
 started-numbered : (how : Start) (l : Lent) → Numbered (startedBy how l .code) (startCausesOf how l)
 started-numbered (plainStart machine) l = refusals.start-numbered l machine
 started-numbered (colourStart machine colour) l = refusals.start-colour-numbered l machine colour
+started-numbered (snapshotStart machine file registers) l = refusals.load-sna-numbered l file registers machine
 
 -- THE NUMBER OF ANY CALL is that of the first of its causes, in document 01's order, that holds; 0, exactly when none holds.
 pub call-numbered : (k : Call) (l : Lent) → Numbered (performed k l .code) (causesOf k l)
@@ -80,16 +82,23 @@ module _ (l : Lent) where
   reply-refused shownAsked answer z = refusals.shown-picture-unaltered (l .state) (l .a) (l .b) answer z
   reply-refused (stillAsked flash) picture z = refusals.still-picture-unaltered (l .state) (l .ram) picture flash z
   reply-refused fileAsked file z = refusals.save-scr-unaltered (l .state) (l .ram) file z
+  reply-refused (snapshotAsked registers) file z = refusals.save-sna-unaltered (l .state) (l .ram) file registers z
   reply-refused (help h n) answer z = refusals.helper-unaltered (helpedBy h n) answer z
 
   started-refused : (how : Start) → (startedBy how l .code ≡ 0 → ⊥) → startedBy how l .slices ≡ l
   started-refused (plainStart machine) z = refusals.start-unaltered l machine z
   started-refused (colourStart machine colour) z = refusals.start-colour-unaltered l machine colour z
+  started-refused (snapshotStart machine file registers) z = refusals.load-sna-unaltered l file registers machine z .0
+
+  filled-refused : (how : Start) → (startedBy how l .code ≡ 0 → ⊥) → filledBy how l ≡ lentToFill how
+  filled-refused (plainStart machine) z = refl
+  filled-refused (colourStart machine colour) z = refl
+  filled-refused (snapshotStart machine file registers) z = refusals.load-sna-unaltered l file registers machine z .1
 
   -- A REFUSED CALL, whichever it is, leaves the machine's slices as they were, and its answer as document 01 says.
   pub call-refused : (k : Call) → (performed k l .code ≡ 0 → ⊥) → performed k l ≡ result (performed k l .code) l (refusedFilled k (performed k l .code))
   unfolding performed
-  call-refused (startAgain how) z = rw (started-refused how z)
+  call-refused (startAgain how) z = rw (started-refused how z, filled-refused how z)
   call-refused (takeTime t answer) z = timed-refused t answer z
   call-refused (writeByte addr value) z = rw (refusals.write-internal-unaltered (l .state) (l .ram) addr value z)
   call-refused (writePaging value answer) z =

@@ -8,6 +8,7 @@ use Prim.Native.Nat.{ℕ}
 use mathlib.Core.Path.{_≡_, sym, ap, _∙_}
 use mathlib.Core.List.{List}
 use Rattle.contracts.specs.Timed.{lent, Outcome, outcome, Started, startLeaves}
+use Rattle.contracts.specs.Snapshots.{Imported, importLeaves}
 use Rattle.contracts.specs.Plain.{Told, told, Changed, changed, Repaged, repaged}
 
 pub equal : {A : Type 0} {d x y : A} → x ≡ d → y ≡ d → x ≡ y
@@ -48,4 +49,18 @@ start-equal d r r′ s s′ m m′ a a′ b b′ e e′ p q =
       ap (λ (t : Started). t .slices .a) k,
       ap (λ (t : Started). t .slices .b) k,
       ap (λ (t : Started). t .slices .border) k,
+    )
+
+pub import-equal : (d : Imported) (r r′ : ℕ) (s s′ m m′ g g′ a a′ b b′ e e′ : List ℕ)
+    → importLeaves r (lent s m a b e) g ≡ d → importLeaves r′ (lent s′ m′ a′ b′ e′) g′ ≡ d
+    → (r ≡ r′) × (s ≡ s′) × (m ≡ m′) × (g ≡ g′) × (a ≡ a′) × (b ≡ b′) × (e ≡ e′)
+import-equal d r r′ s s′ m m′ g g′ a a′ b b′ e e′ p q =
+    let k = equal p q in (
+      ap (λ (t : Imported). t .code) k,
+      ap (λ (t : Imported). t .slices .state) k,
+      ap (λ (t : Imported). t .slices .ram) k,
+      ap (λ (t : Imported). t .registers) k,
+      ap (λ (t : Imported). t .slices .a) k,
+      ap (λ (t : Imported). t .slices .b) k,
+      ap (λ (t : Imported). t .slices .border) k,
     )

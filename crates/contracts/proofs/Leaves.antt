@@ -5,12 +5,13 @@ use Prim.Native.Nat.{ℕ, _+_, _*_, _≤_, _<_}
 use mathlib.Core.Path.{_≡_, ap, _∙_}
 use mathlib.Core.Bool.{Bool, true}
 use mathlib.Core.List.{List, []}
-use lib.ListN.{length}
+use lib.ListN.{length, replicate}
 use native.Mathlib.Omega.{arith}
 use borrow.Author.Tests.{eq-eqb, ne-eqb, leb-true}
 use Rattle.machine.specs.declared.ZXMachine.{ZXMachine}
 use Rattle.machine.specs.Numbers.{specsOf}
 use Rattle.machine.specs.declared.ZXMachine.the-variants.{Sinclair48K, Sinclair128K}
+use Rattle.machine.specs.Limits.{pictureLength, borderLength}
 use Rattle.record.specs.declared.Bus.{Bus}
 use Rattle.record.specs.Record.{recordBytes, withPaging}
 use Rattle.memory.specs.declared.Paged.{Paged}
@@ -20,6 +21,7 @@ use Rattle.memory.specs.Paging.{write7ffd, pagedCode, pagingAfter, pageAt, page
 use Rattle.memory.specs.Memory.{ramPage, Holds}
 use Rattle.memory.proofs.Places.{exists-fits, map-holds, shown-exists}
 use Rattle.memory.proofs.Stored.{length-part}
+use Rattle.bus.specs.World.{clearRam, clearPicture, clearBorder}
 use Rattle.screen.specs.declared.Helped.{Helped}
 use Rattle.screen.specs.declared.Helped.the-variants as helped
 use Rattle.judgement.specs.declared.Refusal.{Refusal}
@@ -115,3 +117,16 @@ shown-fits {bus = bus} number on r e =
 
 pub page-long : (number : ℕ) (ram bytes : List ℕ) → bytes ≡ ramPage number ram → 16384 * number + 16384 ≤ length ram → length bytes ≡ 16384
 page-long number ram bytes e h = ap length e ∙ length-part (page.Ram number) [] ram h
+
+-- ---- zeros as many as a start or an import asks for
+pub ram-cleared : (m : ZXMachine) (n : ℕ) → n ≡ specsOf m .ram → replicate n 0 ≡ clearRam m
+unfolding clearRam
+ram-cleared m n e = ap (λ (k : ℕ). replicate k 0) e
+
+pub picture-cleared : (n : ℕ) → n ≡ pictureLength → replicate n 0 ≡ clearPicture
+unfolding clearPicture
+picture-cleared n e = ap (λ (k : ℕ). replicate k 0) e
+
+pub border-cleared : (n : ℕ) → n ≡ borderLength → replicate n 0 ≡ clearBorder
+unfolding clearBorder
+border-cleared n e = ap (λ (k : ℕ). replicate k 0) e

@@ -13,3 +13,4 @@ pub mod Still
 pub mod AsWhole
 pub mod Ranges
 pub mod Screens
+pub mod Snapshots

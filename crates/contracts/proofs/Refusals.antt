@@ -22,22 +22,23 @@ use Rattle.screen.specs.declared.Coloured.the-variants as coloured
 use Rattle.screen.specs.Address.{isAttribute}
 use Rattle.screen.specs.Colour.{colourOf, colourNumber}
 use Rattle.judgement.specs.declared.Refusal.{Refusal}
-use Rattle.judgement.specs.declared.Refusal.the-variants.{BadMachine, BadLength, Unsound, BadFlag, LongWait, FramesFull, BadPage, NoVideoPage, BadNumber}
+use Rattle.judgement.specs.declared.Refusal.the-variants.{BadMachine, BadLength, Unsound, BadFlag, LongWait, FramesFull, BadPage, NoVideoPage, BadNumber, WrongSize, UnequalCopies}
 use Rattle.judgement.specs.declared.Verdict.{Verdict}
 use Rattle.judgement.specs.declared.Verdict.the-variants.{Refused, Accepted}
 use Rattle.judgement.specs.Refusals.{refusalNumber, Cause, cause, judged}
-use Rattle.judgement.specs.Judges.{numberFits, unless, noCauses, startCauses, waitCauses, portCauses, toldCauses, readCauses, writeCauses, loadCauses, ramPageCauses, blockCauses, shownCauses, stillCauses, saveScrCauses, loadScrCauses, judgeState, judgeTold, judgeRead, judgeWrite, judgeLoad, judgeRamPage, judgeBlock, judgeShown, judgeStill, judgeSaveScr, judgeLoadScr}
+use Rattle.judgement.specs.Judges.{numberFits, unless, noCauses, startCauses, waitCauses, portCauses, toldCauses, readCauses, writeCauses, loadCauses, ramPageCauses, blockCauses, shownCauses, stillCauses, saveScrCauses, loadScrCauses, loadSnaCauses, saveSnaCauses, judgeState, judgeTold, judgeRead, judgeWrite, judgeLoad, judgeRamPage, judgeBlock, judgeShown, judgeStill, judgeSaveScr, judgeLoadScr, judgeSaveSna}
 use Rattle.judgement.specs.Answers.{refusedAnswer, timedLength, numberLength}
 use Rattle.judgement.specs.Order.{Ordered, Numbered, documentOrder, numbersOf, standIn, allCauses}
-use Rattle.judgement.proofs.Order.{by-list, start-ordered, start-colour-ordered, state-ordered, wait-ordered, port-ordered, told-ordered, read-ordered, write-ordered, load-ordered, ram-page-ordered, block-ordered, shown-ordered, still-ordered, save-scr-ordered, load-scr-ordered}
+use Rattle.judgement.proofs.Order.{by-list, start-ordered, start-colour-ordered, state-ordered, wait-ordered, port-ordered, told-ordered, read-ordered, write-ordered, load-ordered, ram-page-ordered, block-ordered, shown-ordered, still-ordered, save-scr-ordered, load-scr-ordered, load-sna-ordered, save-sna-ordered}
 use Rattle.contracts.specs.Timed.{Lent, Outcome, timedCall, judgeWaitOf, judgePortOf, waitInternal, waitAt, readIo, writeIo, lentBy, begun, judgeStartOf, black, start, startColour}
 use Rattle.contracts.specs.Plain.{codeOf, Told, told, tell, Changed, change, Repaged, repage, readInternal, writeInternal, write7ffdCall, read7ffd, intActive, framesCount, resetFrames, loadPage, saveScr, loadScr, stillPicture, ramPageTold, blockTold, shownTold}
-use Rattle.contracts.specs.Calls.{plainStart, colourStart, startCausesOf, helperCauses}
+use Rattle.contracts.specs.Snapshots.{judgeLoadSnaOf, importedWorld, loadSna, saveSna}
+use Rattle.contracts.specs.Calls.{plainStart, colourStart, snapshotStart, startCausesOf, helperCauses}
 use Rattle.contracts.specs.Helpers.{help, helperCall, colourHelped, bitmapLineAddr, bitmapLineRel, bitmapColRel, attrRowRel, attrColRel, colorFromBits}
 
 -- ---- numbers: a refusal is known by its number, which is not 0
 refusalOf : ℕ → Refusal
-refusalOf n = getD (Unsound ∷ BadMachine ∷ BadLength ∷ Unsound ∷ BadFlag ∷ LongWait ∷ FramesFull ∷ BadPage ∷ BadNumber ∷ NoVideoPage ∷ []) n Unsound
+refusalOf n = getD (Unsound ∷ BadMachine ∷ BadLength ∷ Unsound ∷ BadFlag ∷ LongWait ∷ FramesFull ∷ BadPage ∷ BadNumber ∷ NoVideoPage ∷ WrongSize ∷ UnequalCopies ∷ []) n Unsound
 
 known : (e : Refusal) → refusalOf (refusalNumber e) ≡ e
 unfolding refusalOf
@@ -50,11 +51,13 @@ known FramesFull = refl
 known BadPage = refl
 known NoVideoPage = refl
 known BadNumber = refl
+known WrongSize = refl
+known UnequalCopies = refl
 
 same-refusal : (e f : Refusal) → refusalNumber e ≡ refusalNumber f → e ≡ f
 same-refusal e f p = sym (known e) ∙ ap refusalOf p ∙ known f
 
--- the refusals have the numbers 1 to 9
+-- the refusals have the numbers 1 to 11
 pub not-zero : (e : Refusal) → refusalNumber e ≡ 0 → ⊥
 not-zero BadMachine p = omega arith
 not-zero BadLength p = omega arith
@@ -65,6 +68,8 @@ not-zero FramesFull p = omega arith
 not-zero BadPage p = omega arith
 not-zero NoVideoPage p = omega arith
 not-zero BadNumber p = omega arith
+not-zero WrongSize p = omega arith
+not-zero UnequalCopies p = omega arith
 
 zero-accepts : (v : Verdict) → codeOf v ≡ 0 → (bus : Bus) × (v ≡ Accepted bus)
 zero-accepts (Refused e) p = absurd (not-zero e p)
@@ -199,6 +204,14 @@ pub save-scr-unaltered : (state ram file : List ℕ) → (saveScr state ram file
 unfolding saveScr
 save-scr-unaltered state ram file n = changed-kept _ _ (judgeSaveScr state (length ram) (length file)) (saveScr state ram file) refl n
 
+pub save-sna-numbered : (state ram file registers : List ℕ) → Numbered (saveSna state ram file registers .code) (allCauses state (saveSnaCauses (length ram) (length file) (length registers)))
+unfolding saveSna
+save-sna-numbered state ram file registers = numbered (judgeSaveSna state (length ram) (length file) (length registers)) _ _ _ (changed-code _ _ (judgeSaveSna state (length ram) (length file) (length registers)) (saveSna state ram file registers) refl) (save-sna-ordered state (length ram) (length file) (length registers))
+
+pub save-sna-unaltered : (state ram file registers : List ℕ) → (saveSna state ram file registers .code ≡ 0 → ⊥) → saveSna state ram file registers .slice ≡ file
+unfolding saveSna
+save-sna-unaltered state ram file registers n = changed-kept _ _ (judgeSaveSna state (length ram) (length file) (length registers)) (saveSna state ram file registers) refl n
+
 pub write-7ffd-numbered : (state : List ℕ) (value : ℕ) (answer : List ℕ) → Numbered (write7ffdCall state value answer .code) (allCauses state (toldCauses (length answer)))
 unfolding write7ffdCall
 write-7ffd-numbered state value answer = numbered (judgeTold state (length answer)) _ _ _ (repaged-code _ _ _ (judgeTold state (length answer)) (write7ffdCall state value answer) refl) (told-ordered state (length answer))
@@ -282,7 +295,7 @@ two-numbered causes code bus c s = numbered (judged causes bus) causes bus code 
 
 -- ---- start
 module _ (l new : Lent) where
-  begun-code : (v : Verdict) → begun l new v .code ≡ codeOf v
+  pub begun-code : (v : Verdict) → begun l new v .code ≡ codeOf v
   unfolding begun
   begun-code (Refused e) = refl
   begun-code (Accepted bus) = refl
@@ -321,6 +334,30 @@ module _ (l : Lent) (machine : ℕ) where
 
   pub start-unaltered : (start l machine .code ≡ 0 → ⊥) → start l machine .slices ≡ l
   start-unaltered n = start-colour-unaltered black n
+
+-- ---- an import
+-- the registers go by the same verdict
+registers-kept : (l new : Lent) (filled registers : List ℕ) (v : Verdict) → (begun l new v .code ≡ 0 → ⊥) → change (λ bus. filled) registers v .slice ≡ registers
+unfolding begun
+registers-kept l new filled registers (Refused e) n = refl
+registers-kept l new filled registers (Accepted bus) n = absurd (n refl)
+
+module _ (l : Lent) (file registers : List ℕ) (machine : ℕ) where
+  abbrev importedLent : Lent
+  importedLent = lentBy (machineOf machine) (importedWorld (machineOf machine) file)
+
+  pub load-sna-numbered : Numbered (loadSna l file registers machine .code) (startCausesOf (snapshotStart machine file registers) l)
+  unfolding loadSna
+  load-sna-numbered =
+      numbered (judgeLoadSnaOf l file registers machine) _ _ _ (begun-code l importedLent (judgeLoadSnaOf l file registers machine))
+      (load-sna-ordered (length (l .state)) (length (l .ram)) (length registers) (length (l .a)) (length (l .b)) (length (l .border)) machine file)
+
+  -- "Nothing is written when refused, `registers` included."
+  pub load-sna-unaltered : (loadSna l file registers machine .code ≡ 0 → ⊥)
+      → (loadSna l file registers machine .slices ≡ l) × (loadSna l file registers machine .registers ≡ registers)
+  unfolding loadSna
+  load-sna-unaltered n =
+      (begun-kept l importedLent (judgeLoadSnaOf l file registers machine) n, registers-kept l importedLent _ registers (judgeLoadSnaOf l file registers machine) n)
 
 -- ---- the helpers
 -- a helper that answers within its range only

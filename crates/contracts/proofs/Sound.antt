@@ -13,11 +13,11 @@ use Rattle.machine.specs.declared.ZXMachine.{ZXMachine}
 use Rattle.machine.specs.declared.ZXMachine.the-variants.{Sinclair48K, Sinclair128K}
 use Rattle.record.specs.declared.Bus.{Bus}
 use Rattle.record.specs.declared.Held.the-variants as held
-use Rattle.record.specs.Record.{recordBytes, heldBy, machineOf, startRecord, withPaging, withPassed, HasRoom}
+use Rattle.record.specs.Record.{recordBytes, heldBy, machineOf, withPaging, withPassed, HasRoom}
 use Rattle.record.specs.Sound.{Sound}
 use Rattle.record.proofs.Soundness.{facts-sound}
 use Rattle.record.specs.Words.{Bytes}
-use Rattle.record.proofs.Round.{held-encode, start-held}
+use Rattle.record.proofs.Round.{held-encode}
 use Rattle.memory.specs.declared.Paged.{Paged}
 use Rattle.memory.specs.Paging.{bitSet, write7ffd, pagingAfter}
 use Rattle.ports.specs.Devices.{devicesOf}
@@ -34,9 +34,10 @@ use Rattle.judgement.specs.Judges.{judgeState, judgeTold}
 use Rattle.judgement.proofs.Accepted.{accepted-bytes, ready-wait, ready-port, ready-told, ready-state}
 use Rattle.contracts.specs.Timed.{Lent, lentWorld, Outcome, timedCall, judgeWaitOf, judgePortOf, waitInternal, waitAt, readIo, writeIo}
 use Rattle.contracts.specs.Plain.{Changed, change, Repaged, repage, write7ffdCall, resetFrames}
-use Rattle.contracts.specs.Calls.{Start, askedMachine, firstColour, startedBy}
+use Rattle.contracts.specs.Calls.{Start, askedMachine, startedWorld, startedBy, startAgain}
+use Rattle.contracts.proofs.Ranges.{Typed}
 use Rattle.contracts.proofs.Refusals.{not-zero}
-use Rattle.contracts.proofs.Starts.{start-left, first-small}
+use Rattle.contracts.proofs.Starts.{start-left, begun-sound}
 
 -- these bytes are held as a sound record
 abbrev pub Good : List ℕ → Type 0
@@ -130,11 +131,10 @@ unfolding writeIo
 write-io-keeps l devices port value answer h g = timed-keeps _ _ _ _ (judgePortOf l devices answer) (writeIo l devices port value answer) refl (λ bus p. write-runs l devices port value answer bus h p) g
 
 -- ---- the other calls that write the record
-pub start-sound : (how : Start) (l : Lent) → startedBy how l .code ≡ 0 → Good (startedBy how l .slices .state)
-start-sound how l c =
-    let m = machineOf (askedMachine how) in
-    let colour = firstColour how in
-    subst (λ (x : Lent). Good (x .state)) (sym (start-left how l c)) (startRecord m colour, start-held m colour (first-small how l c))
+pub start-sound : (how : Start) (l : Lent) → Typed (startAgain how) → startedBy how l .code ≡ 0 → Good (startedBy how l .slices .state)
+start-sound how l typed c =
+    let bus = busOf (machineOf (askedMachine how)) (startedWorld how) in
+    subst (λ (x : Lent). Good (x .state)) (sym (start-left how l c)) (good bus (begun-sound how l typed c))
 
 reset-good : (bus : Bus) → Sound bus → Good (recordBytes (withPassed 0 bus))
 unfolding inCore inScreen inEdge

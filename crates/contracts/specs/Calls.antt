@@ -12,24 +12,31 @@ use Rattle.ports.specs.Devices.{devicesOf}
 use Rattle.bus.specs.Turns.{Part}
 use Rattle.bus.specs.Calls.{plainWait, addressWait, portRead, portWrite, pagingWrite}
 use Rattle.bus.specs.Pokes.{byteWrite, pageLoad, passedReset}
+use Rattle.record.specs.Record.{machineOf}
+use Rattle.snapshot.specs.File.{borderIn}
+use Rattle.bus.specs.World.{World, started}
 use Rattle.screen.specs.declared.Helped.{Helped}
 use Rattle.screen.specs.Address.{lineAddress, lineAt, columnAt, attributeRow, attributeColumn, isAttribute}
 use Rattle.screen.specs.Colour.{fromBits}
 use Rattle.judgement.specs.declared.Refusal.the-variants.{BadNumber}
 use Rattle.judgement.specs.Refusals.{Cause, cause}
-use Rattle.judgement.specs.Judges.{numberFits, unless, noCauses, startCauses, startColourCauses, waitCauses, portCauses, toldCauses, readCauses, writeCauses, loadCauses, ramPageCauses, blockCauses, shownCauses, stillCauses, saveScrCauses, loadScrCauses}
+use Rattle.judgement.specs.Judges.{numberFits, unless, noCauses, startCauses, startColourCauses, waitCauses, portCauses, toldCauses, readCauses, writeCauses, loadCauses, ramPageCauses, blockCauses, shownCauses, stillCauses, saveScrCauses, loadScrCauses, loadSnaCauses, saveSnaCauses}
 use Rattle.judgement.specs.Answers.{timedLength, numberLength, refusedAnswer}
 use Rattle.judgement.specs.Order.{allCauses}
-use Rattle.contracts.specs.Timed.{Lent, Outcome, Started, black, start, startColour, waitInternal, waitAt, readIo, writeIo}
+use Rattle.contracts.specs.Timed.{Lent, Outcome, Started, startLeaves, black, start, startColour, waitInternal, waitAt, readIo, writeIo}
 use Rattle.contracts.specs.Plain.{Told, told, readInternal, writeInternal, write7ffdCall, read7ffd, intActive, framesCount, resetFrames, loadPage, saveScr, loadScr, stillPicture, ramPageTold, blockTold, shownTold}
 use Rattle.contracts.specs.Helpers.{helperCall, colourHelped}
+use Rattle.contracts.specs.Snapshots.{importedWorld, loadSna, saveSna}
 
--- ---- the calls, each with its numbers and with the contents of the slices that are not the machine's own: device record, ROM, page bytes, screen file
+-- ---- the calls, each with its numbers and with the contents of the slices that are not the machine's own: device record, ROM, page bytes, screen file,
+-- snapshot and registers
 
--- the two starts: the machine's number, and in the second the beam's colour
+-- the two starts: the machine's number, and in the second the beam's colour. "An import is a start" (02, Q-4): the machine's number, the file, and the
+-- registers' slice that it fills.
 pub data Start : Type 0 where
   plainStart : ℕ → Start
   colourStart : ℕ → ℕ → Start
+  snapshotStart : ℕ → List ℕ → List ℕ → Start
 
 -- the timed calls
 pub data TimedCall : Type 0 where
@@ -59,9 +66,10 @@ pub data Question : Type 0 where
   shownAsked : Question
   stillAsked : ℕ → Question
   fileAsked : Question
+  snapshotAsked : List ℕ → Question
   help : Helper → ℕ → Question
 
--- any call; the last list of one is the slice that it fills: the answer, the still's picture, or the screen file
+-- any call; the last list of one is the slice that it fills: the answer, the still's picture, the screen file, the snapshot, or an import's registers
 pub data Call : Type 0 where
   startAgain : Start → Call
   takeTime : TimedCall → List ℕ → Call
@@ -92,14 +100,34 @@ withState l state = record { state = state; ram = l .ram; a = l .a; b = l .b; bo
 abbrev pub askedMachine : Start → ℕ
 askedMachine (plainStart machine) = machine
 askedMachine (colourStart machine colour) = machine
+askedMachine (snapshotStart machine file registers) = machine
 
 abbrev pub firstColour : Start → ℕ
 firstColour (plainStart machine) = black
 firstColour (colourStart machine colour) = colour
+firstColour (snapshotStart machine file registers) = borderIn file
+
+-- the world that it leaves where it is accepted: "Demand 3 reads an import as a start whose RAM is the file's"
+abbrev pub startedWorld : Start → World
+startedWorld (plainStart machine) = started (machineOf machine) black
+startedWorld (colourStart machine colour) = started (machineOf machine) colour
+startedWorld (snapshotStart machine file registers) = importedWorld (machineOf machine) file
 
 abbrev pub startedBy : Start → Lent → Started
 startedBy (plainStart machine) l = start l machine
 startedBy (colourStart machine colour) l = startColour l machine colour
+startedBy (snapshotStart machine file registers) l = let i = loadSna l file registers machine in startLeaves (i .code) (i .slices)
+
+-- and the registers' slice, where it has one: as it was lent, and afterwards
+abbrev pub lentToFill : Start → List ℕ
+lentToFill (plainStart machine) = []
+lentToFill (colourStart machine colour) = []
+lentToFill (snapshotStart machine file registers) = registers
+
+abbrev pub filledBy : Start → Lent → List ℕ
+filledBy (plainStart machine) l = []
+filledBy (colourStart machine colour) l = []
+filledBy (snapshotStart machine file registers) l = loadSna l file registers machine .registers
 
 unfoldable pub waited : TimedCall → Lent → List ℕ → Outcome
 waited (plain n) l answer = waitInternal l n answer
@@ -149,10 +177,13 @@ replied (stillAsked flash) l picture =
 replied fileAsked l file =
     let c = saveScr (l .state) (l .ram) file in
     told (c .code) (c .slice)
+replied (snapshotAsked registers) l file =
+    let c = saveSna (l .state) (l .ram) file registers in
+    told (c .code) (c .slice)
 replied (help h n) l answer = helperCall (helpedBy h n) answer
 
 unfoldable pub performed : Call → Lent → Result
-performed (startAgain how) l = let s = startedBy how l in result (s .code) (s .slices) []
+performed (startAgain how) l = let s = startedBy how l in result (s .code) (s .slices) (filledBy how l)
 performed (takeTime t answer) l = let o = waited t l answer in result (o .code) (o .slices) (o .answer)
 performed (writeByte addr value) l = let c = writeInternal (l .state) (l .ram) addr value in result (c .code) (withRam l (c .slice)) []
 performed (writePaging value answer) l = let c = write7ffdCall (l .state) value answer in result (c .code) (withState l (c .state)) (c .answer)
@@ -175,11 +206,13 @@ timedCauses (noMreq addr n) l answer = waitCausesOf l n answer
 timedCauses (portIn devices port) l answer = portCausesOf l devices answer
 timedCauses (portOut devices port value) l answer = portCausesOf l devices answer
 
--- a start judges no record
+-- a start judges no record, nor does an import
 abbrev pub startCausesOf : Start → Lent → List Cause
 startCausesOf (plainStart machine) l = startCauses (length (l .state)) (length (l .ram)) (length (l .a)) (length (l .b)) (length (l .border)) machine
 startCausesOf (colourStart machine colour) l =
     startColourCauses (length (l .state)) (length (l .ram)) (length (l .a)) (length (l .b)) (length (l .border)) machine colour
+startCausesOf (snapshotStart machine file registers) l =
+    loadSnaCauses (length (l .state)) (length (l .ram)) (length registers) (length (l .a)) (length (l .b)) (length (l .border)) machine file
 
 -- the helpers: the answer's length, then 8, "a helper's number outside its range"
 abbrev pub helperRange : Helper → ℕ → Bool
@@ -203,6 +236,7 @@ questionCauses (blockAsked rom block) l answer = allCauses (l .state) (blockCaus
 questionCauses shownAsked l answer = allCauses (l .state) (shownCauses (length (l .a)) (length (l .b)) (numberFits (length answer)))
 questionCauses (stillAsked flash) l picture = allCauses (l .state) (stillCauses (length (l .ram)) (length picture) flash)
 questionCauses fileAsked l file = allCauses (l .state) (saveScrCauses (length (l .ram)) (length file))
+questionCauses (snapshotAsked registers) l file = allCauses (l .state) (saveSnaCauses (length (l .ram)) (length file) (length registers))
 questionCauses (help h n) l answer = helperCauses (helperRange h n) answer
 
 abbrev pub causesOf : Call → Lent → List Cause
@@ -215,7 +249,8 @@ causesOf (loadRam bytes page) l = allCauses (l .state) (loadCauses (length (l .r
 causesOf (loadScreen file page) l = allCauses (l .state) (loadScrCauses (length (l .ram)) (length file) page)
 causesOf (ask q out) l = questionCauses q l out
 
--- "A refused call fills its answer, if that has its length, with the number and zeros": a still's picture and a screen file are left as they were
+-- "A refused call fills its answer, if that has its length, with the number and zeros": a still's picture, a screen file, a snapshot and an import's
+-- registers are left as they were
 abbrev pub refusedReply : Question → List ℕ → ℕ → List ℕ
 refusedReply (byteRead rom addr) answer code = refusedAnswer numberLength code answer
 refusedReply pagingRead answer code = refusedAnswer numberLength code answer
@@ -226,10 +261,11 @@ refusedReply (blockAsked rom block) answer code = refusedAnswer numberLength cod
 refusedReply shownAsked answer code = refusedAnswer numberLength code answer
 refusedReply (stillAsked flash) picture code = picture
 refusedReply fileAsked file code = file
+refusedReply (snapshotAsked registers) file code = file
 refusedReply (help h n) answer code = refusedAnswer numberLength code answer
 
 abbrev pub refusedFilled : Call → ℕ → List ℕ
-refusedFilled (startAgain how) code = []
+refusedFilled (startAgain how) code = lentToFill how
 refusedFilled (takeTime t answer) code = refusedAnswer timedLength code answer
 refusedFilled (writeByte addr value) code = []
 refusedFilled (writePaging value answer) code = refusedAnswer numberLength code answer
@@ -304,7 +340,7 @@ abbrev pub Each : (Made → Type 0) → List Made → Type 0
 Each P [] = Unit {0}
 Each P (c ∷ cs) = P c × Each P cs
 
--- "with no second start": a start that is called again, whichever of the two, is refused
+-- "with no second start": a start that is called again, whichever it is, is refused; "a second [import] is a second start" (02, Q-4)
 abbrev pub NotStarted : Call → ℕ → Type 0
 NotStarted (startAgain how) code = code ≡ 0 → ⊥
 NotStarted (takeTime t answer) code = Unit {0}

@@ -1,4 +1,4 @@
--- Any fresh world may begin a history, and a start leaves one.
+-- Any fresh world may begin a history, and a start leaves one, an import too.
 -- Assumes nothing.
 use Prim.Native.Nat.{ℕ, _*_, _<_}
 use mathlib.Core.Bool.{Bool, true, false, cond}
@@ -8,9 +8,17 @@ use native.Mathlib.Omega.{arith}
 use lib.ListN.{length, getD, drop, length-replicate, getD-replicate}
 use Rattle.machine.specs.declared.ZXMachine.{ZXMachine}
 use Rattle.machine.specs.Numbers.{specsOf}
-use Rattle.bus.specs.World.{World, clearRam, clearPicture, clearBorder, started, Sized}
+use Rattle.record.specs.Record.{machineOf, freshRecord}
+use Rattle.record.specs.Sound.{Sound}
+use Rattle.snapshot.specs.File.{pagingIn, borderIn, ramIn}
+use Rattle.bus.specs.World.{World, clearRam, clearPicture, clearBorder, beginning, started, Sized}
 use Rattle.bus.specs.Time.{showsA}
 use Rattle.bus.proofs.Kept.{started-sound}
+use Rattle.bus.proofs.Lengths.{started-sized}
+use Rattle.contracts.specs.Timed.{Lent, black}
+use Rattle.contracts.specs.Calls.{Start, plainStart, colourStart, snapshotStart, askedMachine, startedWorld, startedBy, startAgain}
+use Rattle.contracts.proofs.Ranges.{Typed}
+use Rattle.contracts.proofs.Starts.{first-small, begun-sound, begun-sized}
 use Rattle.history.specs.Log.{blank, drawn}
 use Rattle.history.specs.Fresh.{Fresh}
 use Rattle.history.specs.Demand.{paintedTo}
@@ -24,10 +32,6 @@ picture-size = length-replicate {A = ℕ} 49152 0
 pub border-size : length clearBorder ≡ 76800
 unfolding clearBorder
 border-size = length-replicate {A = ℕ} 76800 0
-
-ram-size : (m : ZXMachine) → length (clearRam m) ≡ specsOf m .ram
-unfolding clearRam
-ram-size m = length-replicate {A = ℕ} (specsOf m .ram) 0
 
 border-clear : (i : ℕ) → i < 76800 → getD clearBorder i 0 ≡ 0
 unfolding clearBorder
@@ -79,12 +83,13 @@ module _ (m : ZXMachine) (w : World) (f : Fresh m w) where
       nothing-painted : (i : ℕ) → i < paintedTo (w .edge) → ⊥
       nothing-painted i = rw (f .unblocked, f .pairs) (λ h. omega arith)
 
--- The world that a start leaves is fresh, and its first colour is the start's, whichever of the eight that is.
-pub started-fresh : (m : ZXMachine) (colour : ℕ) → colour < 8 → Fresh m (started m colour)
-started-fresh m colour h =
+-- A world that begins with a fresh record and any RAM of its length is fresh: a start's, and an import's
+beginning-fresh : (m : ZXMachine) (paging reported colour : ℕ) (ram : List ℕ) → Sound (freshRecord m paging reported colour) → length ram ≡ specsOf m .ram
+    → Fresh m (beginning (freshRecord m paging reported colour) ram)
+beginning-fresh m paging reported colour ram sound long =
     record {
-      sound = started-sound m colour h;
-      ram = ram-size m;
+      sound = sound;
+      ram = long;
       clock = refl;
       painted = refl;
       pairs = refl;
@@ -94,5 +99,14 @@ started-fresh m colour h =
       pixels = refl;
     }
 
-pub started-colour : (m : ZXMachine) (colour : ℕ) → started m colour .edge .colour ≡ colour
-started-colour m colour = refl
+pub started-fresh : (m : ZXMachine) (colour : ℕ) → colour < 8 → Fresh m (started m colour)
+started-fresh m colour h = beginning-fresh m 0 0 colour (clearRam m) (started-sound m colour h) (started-sized m colour .ram)
+
+-- THE WORLD THAT A START LEAVES IS FRESH, whichever start it was: "An import is a start" (02, Q-4), whose RAM is the file's
+pub start-fresh : (how : Start) (l : Lent) → Typed (startAgain how) → startedBy how l .code ≡ 0 → Fresh (machineOf (askedMachine how)) (startedWorld how)
+start-fresh (plainStart machine) l typed z = started-fresh (machineOf machine) black (first-small (plainStart machine) l z)
+start-fresh (colourStart machine colour) l typed z = started-fresh (machineOf machine) colour (first-small (colourStart machine colour) l z)
+start-fresh (snapshotStart machine file registers) l typed z =
+    let m = machineOf machine in
+    let how = snapshotStart machine file registers in
+    beginning-fresh m (pagingIn m file) (borderIn file) (borderIn file) (ramIn m file) (begun-sound how l typed z) (begun-sized how l z .ram)

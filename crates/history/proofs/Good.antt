@@ -25,7 +25,7 @@ use Rattle.judgement.specs.Judges.{ramFits}
 use Rattle.judgement.specs.Answers.{timedLength}
 use Rattle.judgement.specs.Order.{NoneHolds, FirstHolds, recordCauses}
 use Rattle.contracts.specs.Timed.{Lent, lentBy}
-use Rattle.contracts.specs.Calls.{plainStart, colourStart, plain, mreq, noMreq, portIn, portOut, byteRead, pagingRead, interruptAsked, framesAsked, pageAsked, blockAsked, shownAsked, stillAsked, fileAsked, help, Call, startAgain, takeTime, writeByte, writePaging, resetPassed, loadRam, loadScreen, ask, performed, waitCausesOf, causesOf, Portions, lentOf}
+use Rattle.contracts.specs.Calls.{plainStart, colourStart, snapshotStart, plain, mreq, noMreq, portIn, portOut, byteRead, pagingRead, interruptAsked, framesAsked, pageAsked, blockAsked, shownAsked, stillAsked, fileAsked, snapshotAsked, help, Call, startAgain, takeTime, writeByte, writePaging, resetPassed, loadRam, loadScreen, ask, performed, waitCausesOf, causesOf, Portions, lentOf}
 use Rattle.contracts.proofs.Calls.{call-numbered}
 use Rattle.contracts.proofs.Wholes.{record-of, state-whole}
 
@@ -109,6 +109,7 @@ module _ (m : ZXMachine) (w : World) (sound : SoundWorld m w) (sized : Sized m w
   first-by : (k : Call) → FirstHolds (causesOf k part) Unsound → ⊥
   first-by (startAgain (plainStart machine)) f = clean-first _ refl f
   first-by (startAgain (colourStart machine first)) f = clean-first _ refl f
+  first-by (startAgain (snapshotStart machine file registers)) f = clean-first _ refl f
   first-by (takeTime (plain k) answer) f = record-first _ refl f
   first-by (takeTime (mreq addr k) answer) f = record-first _ refl f
   first-by (takeTime (noMreq addr k) answer) f = record-first _ refl f
@@ -128,6 +129,7 @@ module _ (m : ZXMachine) (w : World) (sound : SoundWorld m w) (sized : Sized m w
   first-by (ask shownAsked out) f = record-first _ refl f
   first-by (ask (stillAsked flash) out) f = record-first _ refl f
   first-by (ask fileAsked out) f = record-first _ refl f
+  first-by (ask (snapshotAsked registers) out) f = record-first _ refl f
   first-by (ask (help h number) out) f = clean-first _ refl f
 
   -- A machine whose record is sound never gives refusal 3, however its buffers are lent.

@@ -22,14 +22,16 @@ use Rattle.record.proofs.Round.{held-decode, held-sound, held-bytes}
 use Rattle.memory.specs.Paging.{pageExists}
 use Rattle.memory.specs.Screens.{screenLength, videoPage}
 use Rattle.ports.specs.Devices.{flagsOf, devicesLength}
+use Rattle.snapshot.specs.File.{dueSize, pagingIn}
+use Rattle.snapshot.specs.Kept.{registersLength}
 use Rattle.judgement.specs.declared.Verdict.the-variants.{Accepted}
 use Rattle.judgement.specs.Refusals.{Cause, judgedHeld, judge}
-use Rattle.judgement.specs.Judges.{ramFits, romFits, pictureFits, borderFits, timedFits, numberFits, lentFit, startFits, judgeStart, judgeWait, judgePort, judgeState, judgeTold, judgeRead, judgeWrite, judgeLoad, judgeRamPage, judgeBlock, judgeShown, judgeStill, judgeSaveScr, judgeLoadScr}
+use Rattle.judgement.specs.Judges.{ramFits, romFits, pictureFits, borderFits, timedFits, numberFits, lentFit, startFits, judgeStart, judgeWait, judgePort, judgeState, judgeTold, judgeRead, judgeWrite, judgeLoad, judgeRamPage, judgeBlock, judgeShown, judgeStill, judgeSaveScr, judgeLoadScr, judgeLoadSna, judgeSaveSna}
 use Rattle.judgement.specs.Order.{NoneHolds}
-use Rattle.judgement.specs.Ready.{OnRecord, Fit, ReadyStart, ReadyWait, ReadyPort, ReadyTold, ReadyRead, ReadyWrite, ReadyLoad, ReadyRamPage, ReadyBlock, ReadyShown, ReadyStill, ReadySaveScr, ReadyLoadScr}
+use Rattle.judgement.specs.Ready.{OnRecord, Fit, ReadyStart, ReadyWait, ReadyPort, ReadyTold, ReadyRead, ReadyWrite, ReadyLoad, ReadyRamPage, ReadyBlock, ReadyShown, ReadyStill, ReadySaveScr, ReadyLoadScr, ReadyLoadSna, ReadySaveSna}
 use Rattle.judgement.specs.Answers.{timedLength, numberLength}
 use Rattle.judgement.proofs.Judging.{never}
-use Rattle.judgement.proofs.Order.{accepted-by-none, start-colour-ordered}
+use Rattle.judgement.proofs.Order.{accepted-by-none, start-colour-ordered, load-sna-ordered}
 
 by-held : (h : Held) (causes : Bus → List Cause) (bus : Bus) → judgedHeld h causes ≡ Accepted bus → (h ≡ held.Sound bus) × NoneHolds (causes bus)
 by-held held.WrongLength causes bus p = never _ bus p
@@ -82,6 +84,26 @@ ready-start state ram a b border machine colour bus p =
       bIs = eqb-true b pictureLength (test 3);
       borderIs = eqb-true border borderLength (test 4);
       colourIn = ltb-false 7 colour (r .0 .1 .1 .0);
+      writes = r .1;
+    }
+
+pub ready-load-sna : (state ram registers a b border machine : ℕ) (file : List ℕ) (bus : Bus) → judgeLoadSna state ram registers a b border machine file ≡ Accepted bus
+    → ReadyLoadSna state ram registers a b border machine file bus
+ready-load-sna state ram registers a b border machine file bus p =
+    let m = machineOf machine in
+    let r = load-sna-ordered state ram registers a b border machine file .acceptedByNone bus p in
+    let test = each (eqb state recordLength) (eqb ram (specsOf m .ram) ∷ pictureFits a ∷ pictureFits b ∷ borderFits border ∷ eqb registers registersLength ∷ [])
+    (not-false (startFits m state ram a b border && eqb registers registersLength) (r .0 .1 .0)) in
+    record {
+      known = ltb-false 1 machine (r .0 .0);
+      stateIs = eqb-true state recordLength (test 0);
+      ramIs = eqb-true ram (specsOf m .ram) (test 1);
+      aIs = eqb-true a pictureLength (test 2);
+      bIs = eqb-true b pictureLength (test 3);
+      borderIs = eqb-true border borderLength (test 4);
+      registersIs = eqb-true registers registersLength (test 5);
+      fileIs = eqb-true (length file) (dueSize m (pagingIn m file)) (not-false _ (r .0 .1 .1 .0));
+      copiesEqual = r .0 .1 .1 .1 .0;
       writes = r .1;
     }
 
@@ -214,4 +236,16 @@ module _ (state : List ℕ) (bus : Bus) where
         fileIs = eqb-true file screenLength (test 1);
         exists = not-false (pageExists (bus .machine) page) (r .1 .1 .0);
         video = not-false (videoPage (bus .machine) page) (r .1 .1 .1 .0);
+      }
+
+  pub ready-save-sna : (ram file registers : ℕ) → judgeSaveSna state ram file registers ≡ Accepted bus → ReadySaveSna state ram file registers bus
+  unfolding judgeSaveSna
+  ready-save-sna ram file registers p =
+      let r = accepted state _ bus p in
+      let test = each (ramFits bus ram) (eqb registers registersLength ∷ []) (not-false _ (r .1 .0)) in
+      record {
+        onRecord = r .0;
+        ramIs = eqb-true ram (specsOf (bus .machine) .ram) (test 0);
+        registersIs = eqb-true registers registersLength (test 1);
+        fileIs = eqb-true file (dueSize (bus .machine) (bus .paging)) (not-false _ (r .1 .1 .0));
       }

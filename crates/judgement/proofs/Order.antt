@@ -10,11 +10,12 @@ use lib.ListN.{length}
 use Rattle.record.specs.declared.Bus.{Bus}
 use Rattle.record.specs.declared.Held.the-variants as held
 use Rattle.record.specs.Record.{recordLength, recordOf, soundBytes, heldBy, machineOf, startRecord}
+use Rattle.snapshot.specs.Kept.{snapshotRecord}
 use Rattle.judgement.specs.declared.Refusal.{Refusal}
 use Rattle.judgement.specs.declared.Verdict.{Verdict}
 use Rattle.judgement.specs.declared.Verdict.the-variants.{Refused, Accepted}
 use Rattle.judgement.specs.Refusals.{Cause, judged, judgedHeld, judge}
-use Rattle.judgement.specs.Judges.{above, startCauses, startColourCauses, judgeStart, waitCauses, judgeWait, portCauses, judgePort, noCauses, judgeState, toldCauses, judgeTold, readCauses, judgeRead, writeCauses, judgeWrite, loadCauses, judgeLoad, ramPageCauses, judgeRamPage, blockCauses, judgeBlock, shownCauses, judgeShown, stillCauses, saveScrCauses, loadScrCauses, judgeStill, judgeSaveScr, judgeLoadScr}
+use Rattle.judgement.specs.Judges.{above, startCauses, startColourCauses, judgeStart, waitCauses, judgeWait, portCauses, judgePort, noCauses, judgeState, toldCauses, judgeTold, readCauses, judgeRead, writeCauses, judgeWrite, loadCauses, judgeLoad, ramPageCauses, judgeRamPage, blockCauses, judgeBlock, shownCauses, judgeShown, stillCauses, saveScrCauses, loadScrCauses, judgeStill, judgeSaveScr, judgeLoadScr, loadSnaCauses, judgeLoadSna, saveSnaCauses, judgeSaveSna}
 use Rattle.judgement.specs.Order.{NoneHolds, FirstHolds, allCauses, documentOrder, numbersOf, standIn, Ordered}
 use Rattle.judgement.proofs.Judging.{never}
 
@@ -121,6 +122,13 @@ module _ (state ram a b border machine : ℕ) where
   start-ordered colour h =
       by-list (judgeStart state ram a b border machine colour) (startCauses state ram a b border machine) (startRecord (machineOf machine) colour) (rw h) refl
 
+-- nor does an import
+pub load-sna-ordered : (state ram registers a b border machine : ℕ) (file : List ℕ)
+    → Ordered (judgeLoadSna state ram registers a b border machine file) (loadSnaCauses state ram registers a b border machine file) (snapshotRecord (machineOf machine) file)
+unfolding judgeLoadSna standIn
+load-sna-ordered state ram registers a b border machine file =
+    by-list (judgeLoadSna state ram registers a b border machine file) (loadSnaCauses state ram registers a b border machine file) (snapshotRecord (machineOf machine) file) refl refl
+
 module _ (state : List ℕ) where
   pub wait-ordered : (ram a b border clocks answer : ℕ) → Ordered (judgeWait state ram a b border clocks answer) (allCauses state (waitCauses ram a b border clocks answer)) (recordOf state)
   unfolding judgeWait standIn
@@ -173,3 +181,7 @@ module _ (state : List ℕ) where
   pub load-scr-ordered : (ram file page : ℕ) → Ordered (judgeLoadScr state ram file page) (allCauses state (loadScrCauses ram file page)) (recordOf state)
   unfolding judgeLoadScr standIn
   load-scr-ordered ram file page = judge-ordered state (loadScrCauses ram file page) refl
+
+  pub save-sna-ordered : (ram file registers : ℕ) → Ordered (judgeSaveSna state ram file registers) (allCauses state (saveSnaCauses ram file registers)) (recordOf state)
+  unfolding judgeSaveSna standIn
+  save-sna-ordered ram file registers = judge-ordered state (saveSnaCauses ram file registers) refl

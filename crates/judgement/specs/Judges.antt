@@ -1,5 +1,5 @@
--- Document 01, "Eight refusals", and document 02, Q-2 and Q-3: the causes of each call, in the stated order, over the sound record that it was lent; and the judgement by
--- them, once the record itself is judged. A slice comes in by its length; the state and the device record by their bytes.
+-- Document 01, "Eight refusals", and document 02, Q-2, Q-3 and Q-4: the causes of each call, in the stated order, over the sound record that it was lent; and the judgement by
+-- them, once the record itself is judged. A slice comes in by its length; the state, the device record and a snapshot that is read by their bytes.
 -- Assumes nothing.
 use Prim.Native.Nat.{ℕ}
 use mathlib.Core.Bool.{Bool, not, _&&_}
@@ -14,7 +14,9 @@ use Rattle.record.specs.Record.{noRoom, recordLength, machineOf, startRecord}
 use Rattle.memory.specs.Paging.{pageExists}
 use Rattle.memory.specs.Screens.{screenLength, videoPage}
 use Rattle.ports.specs.Devices.{flagsOf, devicesLength}
-use Rattle.judgement.specs.declared.Refusal.the-variants.{BadMachine, BadLength, BadFlag, LongWait, FramesFull, BadPage, NoVideoPage, BadNumber}
+use Rattle.snapshot.specs.File.{dueSize, pagingIn, copiesDiffer}
+use Rattle.snapshot.specs.Kept.{registersLength, snapshotRecord}
+use Rattle.judgement.specs.declared.Refusal.the-variants.{BadMachine, BadLength, BadFlag, LongWait, FramesFull, BadPage, NoVideoPage, BadNumber, WrongSize, UnequalCopies}
 use Rattle.judgement.specs.declared.Verdict.{Verdict}
 use Rattle.judgement.specs.Refusals.{Cause, cause, judged, judge}
 use Rattle.judgement.specs.Answers.{timedLength, numberLength}
@@ -176,3 +178,30 @@ loadScrCauses ram file page bus = unless (screenFits bus ram file) ∷ badPage b
 
 unfoldable pub judgeLoadScr : List ℕ → ℕ → ℕ → ℕ → Verdict
 judgeLoadScr state ram file page = judge state (loadScrCauses ram file page)
+
+-- snapshots (02, Q-4): "10 when the size is not the one due for the machine and, on 128K, for the file's 7FFD byte, or the record's when writing"
+abbrev pub wrongSize : ZXMachine → ℕ → ℕ → Cause
+wrongSize m byte file = cause WrongSize (not (eqb file (dueSize m byte)))
+
+-- an import, which judges no record either: "1 as for a start"; the lengths of a start's slices and of the registers; 10, "then 11 for unequal copies, both
+-- after 2"
+abbrev pub loadSnaCauses : ℕ → ℕ → ℕ → ℕ → ℕ → ℕ → ℕ → List ℕ → List Cause
+loadSnaCauses state ram registers a b border machine file =
+    cause BadMachine (ltb 1 machine)
+    ∷ unless (startFits (machineOf machine) state ram a b border && eqb registers registersLength)
+    ∷ wrongSize (machineOf machine) (pagingIn (machineOf machine) file) (length file)
+    ∷ cause UnequalCopies (copiesDiffer (machineOf machine) file)
+    ∷ []
+
+-- accepted, with the record that it writes
+unfoldable pub judgeLoadSna : ℕ → ℕ → ℕ → ℕ → ℕ → ℕ → ℕ → List ℕ → Verdict
+judgeLoadSna state ram registers a b border machine file =
+    judged (loadSnaCauses state ram registers a b border machine file) (snapshotRecord (machineOf machine) file)
+
+-- an export
+abbrev pub saveSnaCauses : ℕ → ℕ → ℕ → Bus → List Cause
+saveSnaCauses ram file registers bus =
+    unless (ramFits bus ram && eqb registers registersLength) ∷ wrongSize (bus .machine) (bus .paging) file ∷ []
+
+unfoldable pub judgeSaveSna : List ℕ → ℕ → ℕ → ℕ → Verdict
+judgeSaveSna state ram file registers = judge state (saveSnaCauses ram file registers)

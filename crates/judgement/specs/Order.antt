@@ -38,9 +38,10 @@ recordCauses state = cause BadLength (not (eqb (length state) recordLength)) ∷
 abbrev pub allCauses : List ℕ → (Bus → List Cause) → List Cause
 allCauses state causes = recordCauses state ++ causes (recordOf state)
 
--- "Order: 1, record length, 3, other lengths, 4, 5, 6, 7, 8.", and 9 "after 7" (02, Q-2)
+-- "Order: 1, record length, 3, other lengths, 4, 5, 6, 7, 8.", 9 "after 7" (02, Q-2), and 10, "then 11 .., both after 2" (02, Q-4), which no call has
+-- beside 4 to 9
 abbrev pub documentOrder : List ℕ
-documentOrder = 1 ∷ 2 ∷ 3 ∷ 2 ∷ 4 ∷ 5 ∷ 6 ∷ 7 ∷ 9 ∷ 8 ∷ []
+documentOrder = 1 ∷ 2 ∷ 3 ∷ 2 ∷ 4 ∷ 5 ∷ 6 ∷ 7 ∷ 9 ∷ 8 ∷ 10 ∷ 11 ∷ []
 
 abbrev pub numbersOf : List Cause → List ℕ
 numbersOf causes = map (λ c. refusalNumber (c .refusal)) causes

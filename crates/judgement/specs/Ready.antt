@@ -2,7 +2,7 @@
 -- Assumes nothing.
 use Prim.Native.Nat.{ℕ, _≤_}
 use mathlib.Core.Path.{_≡_}
-use mathlib.Core.Bool.{Bool, true}
+use mathlib.Core.Bool.{Bool, true, false}
 use mathlib.Core.List.{List}
 use lib.ListN.{length}
 use Rattle.machine.specs.Numbers.{specsOf}
@@ -14,6 +14,8 @@ use Rattle.record.specs.Sound.{Sound}
 use Rattle.memory.specs.Paging.{pageExists}
 use Rattle.memory.specs.Screens.{screenLength, videoPage}
 use Rattle.ports.specs.Devices.{flagsOf, devicesLength}
+use Rattle.snapshot.specs.File.{dueSize, pagingIn, copiesDiffer}
+use Rattle.snapshot.specs.Kept.{registersLength, snapshotRecord}
 use Rattle.judgement.specs.Answers.{timedLength, numberLength}
 
 -- a start's machine is one that there is, its slices have that machine's lengths, its colour is one of the eight, and this is the record to write
@@ -111,3 +113,22 @@ pub record ReadyLoadScr (state : List ℕ) (ram file page : ℕ) (bus : Bus) : T
   pub fileIs : file ≡ screenLength
   pub exists : pageExists (bus .machine) page ≡ true
   pub video : videoPage (bus .machine) page ≡ true
+
+-- an import's file has the size that is due, and its copies are equal; this is the record to write
+pub record ReadyLoadSna (state ram registers a b border machine : ℕ) (file : List ℕ) (bus : Bus) : Type 0 where
+  pub known : machine ≤ 1
+  pub stateIs : state ≡ recordLength
+  pub ramIs : ram ≡ specsOf (machineOf machine) .ram
+  pub registersIs : registers ≡ registersLength
+  pub aIs : a ≡ pictureLength
+  pub bIs : b ≡ pictureLength
+  pub borderIs : border ≡ borderLength
+  pub fileIs : length file ≡ dueSize (machineOf machine) (pagingIn (machineOf machine) file)
+  pub copiesEqual : copiesDiffer (machineOf machine) file ≡ false
+  pub writes : bus ≡ snapshotRecord (machineOf machine) file
+
+pub record ReadySaveSna (state : List ℕ) (ram file registers : ℕ) (bus : Bus) : Type 0 where
+  pub onRecord : OnRecord state bus
+  pub ramIs : ram ≡ specsOf (bus .machine) .ram
+  pub registersIs : registers ≡ registersLength
+  pub fileIs : file ≡ dueSize (bus .machine) (bus .paging)

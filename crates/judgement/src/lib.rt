@@ -1,4 +1,4 @@
-// What it is: the eight refusals of document 01 and refusal 9 of document 02 (Q-2), their order, and the bytes of the answers.
+// What it is: the eight refusals of document 01 and refusals 9, 10 and 11 of document 02 (Q-2, Q-4), their order, and the bytes of the answers.
 // What it promises: each judgement is the first refusal, in the stated order, whose condition holds, or the sound record where none does; each answer has exactly the stated bytes.
 // Where its definitions stand: specs/Refusals.antt (numbers and order), specs/Judges.antt (each call's conditions), specs/Answers.antt (bytes).
 ghost use mathlib.Core.Path.{_≡_};
@@ -6,8 +6,9 @@ ghost use Prim.Native.Nat.{_<_};
 ghost use lib.ListN.{length, replicate};
 ghost use Rattle.record.specs.Record.{flagByte};
 ghost use Rattle.judgement.specs.Refusals.{refusalNumber, judged, inTurn};
-ghost use Rattle.judgement.specs.Judges.{numberFits, ramFits, romFits, lentFit, judgeWait, judgePort, judgeState, judgeTold, judgeRead, judgeWrite, judgeLoad, judgeRamPage, judgeBlock, judgeShown, judgeStill, judgeSaveScr, judgeLoadScr, framesFull, badPage, noVideoPage, screenFits};
+ghost use Rattle.judgement.specs.Judges.{numberFits, ramFits, romFits, lentFit, judgeWait, judgePort, judgeState, judgeTold, judgeRead, judgeWrite, judgeLoad, judgeRamPage, judgeBlock, judgeShown, judgeStill, judgeSaveScr, judgeLoadScr, judgeSaveSna, startFits, framesFull, badPage, noVideoPage, screenFits, wrongSize};
 ghost use Rattle.judgement.specs.Answers.{timedLength, timedAnswer, numberLength, numberAnswer, refusedAnswer};
+use machine::ZXMachine;
 use record::Bus;
 use record::Held;
 
@@ -27,6 +28,8 @@ pub enum Refusal {
     BadPage,
     BadNumber,
     NoVideoPage,
+    WrongSize,
+    UnequalCopies,
 }
 
 // What is said of a call: refused, or accepted with the sound record that it was lent.
@@ -49,10 +52,12 @@ pub fn number(e: Refusal) -> u8
         Refusal::BadPage => 7,
         Refusal::BadNumber => 8,
         Refusal::NoVideoPage => 9,
+        Refusal::WrongSize => 10,
+        Refusal::UnequalCopies => 11,
     }
 }
 
-// The causes behind the record, each by whether it holds, in their order: "other lengths, 4, 5, 6, 7, 8", and 9 "after 7".
+// The causes behind the record, each by whether it holds, in their order: "other lengths, 4, 5, 6, 7, 8", 9 "after 7", and 10 behind them.
 struct Causes {
     length: bool,
     flag: bool,
@@ -61,6 +66,7 @@ struct Causes {
     page: bool,
     video: bool,
     number: bool,
+    size: bool,
 }
 
 // A call names the causes that are its own; no other holds.
@@ -72,6 +78,7 @@ const NONE: Causes = Causes {
     page: false,
     video: false,
     number: false,
+    size: false,
 };
 
 // The first cause that holds refuses.
@@ -98,6 +105,9 @@ fn first_cause(bus: Bus, causes: Causes) -> Verdict
     }
     if causes.number {
         return Verdict::Refused(Refusal::BadNumber);
+    }
+    if causes.size {
+        return Verdict::Refused(Refusal::WrongSize);
     }
     Verdict::Accepted(bus)
 }
@@ -438,6 +448,48 @@ pub fn judge_load_scr(state: &[u8], ram: usize, file: usize, page: u32) -> Verdi
             )
         }
     }
+}
+
+// A snapshot's size is not the one that is due.
+fn wrong_size(bus: Bus, file: usize) -> bool
+    ensures { λ r. ⌜ r ≡ wrongSize (bus .machine) (bus .paging) file .holds ⌝ }
+{
+    let m = bus.machine;
+    let due = snapshot::due_size(m, bus.paging);
+    !(file == due)
+}
+
+pub fn judge_save_sna(state: &[u8], ram: usize, file: usize, registers: usize) -> Verdict
+    ensures { λ r. ⌜ r ≡ judgeSaveSna (now (state .entry)) ram file registers ⌝ }
+{
+    let v = judge_state(state);
+    match v {
+        Verdict::Refused(e) => Verdict::Refused(e),
+        Verdict::Accepted(bus) => {
+            let fit = ram_fits(bus, ram) & (registers == snapshot::REGISTERS_LENGTH);
+            let wrong = wrong_size(bus, file);
+            first_cause(
+                bus,
+                Causes {
+                    length: !fit,
+                    size: wrong,
+                    ..NONE
+                },
+            )
+        }
+    }
+}
+
+// The slices of a start, and of an import.
+pub fn start_fits(m: ZXMachine, state: usize, ram: usize, a: usize, b: usize, border: usize) -> bool
+    ensures { λ r. ⌜ r ≡ startFits m state ram a b border ⌝ }
+{
+    let specs = m.specs();
+    (state == record::LENGTH)
+        & (ram == specs.ram)
+        & (a == machine::PICTURE_LENGTH)
+        & (b == machine::PICTURE_LENGTH)
+        & (border == machine::BORDER_LENGTH)
 }
 
 // Zeros throughout.

@@ -7,7 +7,8 @@ use mathlib.Core.Path.{_≡_, refl, sym, _∙_, ap}
 use contract.Lifetimes.{Lfts}
 use Rattle.contracts.specs.Timed.{Lent, lent, Outcome, outcome}
 use Rattle.contracts.specs.Plain.{told, Changed, Repaged}
-use Rattle.contracts.specs.Calls.{Start, plainStart, colourStart, startedBy, plain, mreq, noMreq, portIn, portOut, Helper, lineAddr, lineOf, columnOf, attrRowOf, attrColumnOf, colourBits, Question, byteRead, pagingRead, interruptAsked, framesAsked, pageAsked, blockAsked, shownAsked, stillAsked, fileAsked, help, Call, startAgain, takeTime, writeByte, writePaging, resetPassed, loadRam, loadScreen, ask, Result, result, withRam, withState, waited, helpedBy, replied, performed, lentOf, Made, buffersAfter, Obeyed}
+use Rattle.contracts.specs.Snapshots.{Imported}
+use Rattle.contracts.specs.Calls.{Start, plainStart, colourStart, snapshotStart, startedBy, plain, mreq, noMreq, portIn, portOut, Helper, lineAddr, lineOf, columnOf, attrRowOf, attrColumnOf, colourBits, Question, byteRead, pagingRead, interruptAsked, framesAsked, pageAsked, blockAsked, shownAsked, stillAsked, fileAsked, snapshotAsked, help, Call, startAgain, takeTime, writeByte, writePaging, resetPassed, loadRam, loadScreen, ask, Result, result, withRam, withState, waited, helpedBy, replied, performed, lentOf, Made, buffersAfter, Obeyed}
 use Rattle.contracts.proofs.Ranges.{TypedQuestion, Typed, AllTyped}
 use Rattle.contracts.specs.Helpers.{helperCall}
 use Rattle.runs.specs.Run.{Slice, slice, Where, HelperAdmits, Replies, Steps, Run, Begins}
@@ -31,11 +32,13 @@ ask-range (blockAsked rom block) at l out code filled s = s .1 .0 .1 .1 .1 .0 .1
 ask-range shownAsked at l out code filled s = tt
 ask-range (stillAsked flash) at l out code filled s = s .1 .0 .1 .1 .1 .0 .1
 ask-range fileAsked at l out code filled s = tt
+ask-range (snapshotAsked registers) at l out code filled s = tt
 ask-range (help h n) at l out code filled s = help-range h (s .0) n (slice at 0 out) code (slice at 0 filled) (s .1)
 
 in-range : (k : Call) (at : ℕ → Where) (l : Lent) (r : Result) → Steps k at l r → Typed k
 in-range (startAgain (plainStart machine)) at l r s = s .1 .0 .1 .1 .1 .1 .1 .0 .1
 in-range (startAgain (colourStart machine colour)) at l r s = (s .1 .0 .1 .1 .1 .1 .1 .0 .1, s .1 .0 .1 .1 .1 .1 .1 .1 .0 .1)
+in-range (startAgain (snapshotStart machine file registers)) at l r s = (s .1 .0 .1 .1 .1 .1 .1 .1 .1 .0 .1, s .2)
 in-range (takeTime (plain n) answer) at l r s = s .1 .0 .1 .1 .1 .1 .1 .0 .1
 in-range (takeTime (mreq addr n) answer) at l r s = (s .1 .0 .1 .1 .1 .1 .1 .0 .1, s .1 .0 .1 .1 .1 .1 .1 .1 .0 .1)
 in-range (takeTime (noMreq addr n) answer) at l r s = (s .1 .0 .1 .1 .1 .1 .1 .0 .1, s .1 .0 .1 .1 .1 .1 .1 .1 .0 .1)
@@ -70,6 +73,7 @@ reply-is (blockAsked rom block) at l out code filled s = s .1 .1
 reply-is shownAsked at l out code filled s = s .1 .1
 reply-is (stillAsked flash) at l out code filled s = ap (λ (c : Changed). told (c .code) (c .slice)) (s .1 .1)
 reply-is fileAsked at l out code filled s = ap (λ (c : Changed). told (c .code) (c .slice)) (s .1 .1)
+reply-is (snapshotAsked registers) at l out code filled s = ap (λ (c : Changed). told (c .code) (c .slice)) (s .1 .1)
 reply-is (help h n) at l out code filled s = helper-is h (s .0) n (slice at 0 out) code (slice at 0 filled) (s .1)
 
 -- a timed call is lent RAM to read alone
@@ -84,6 +88,7 @@ step-is : (k : Call) (at : ℕ → Where) (l : Lent) (r : Result) → Steps k at
 unfolding performed waited
 step-is (startAgain (plainStart machine)) at l r s = λ i. result (s .1 .1 i .code) (s .1 .1 i .slices) (s .2 i)
 step-is (startAgain (colourStart machine colour)) at l r s = λ i. result (s .1 .1 i .code) (s .1 .1 i .slices) (s .2 i)
+step-is (startAgain (snapshotStart machine file registers)) at l r s = ap (λ (x : Imported). result (x .code) (x .slices) (x .registers)) (s .1 .1)
 step-is (takeTime (plain n) answer) at l r s = timed-is r l _ (s .2) (s .1 .1)
 step-is (takeTime (mreq addr n) answer) at l r s = timed-is r l _ (s .2) (s .1 .1)
 step-is (takeTime (noMreq addr n) answer) at l r s = timed-is r l _ (s .2) (s .1 .1)
@@ -113,8 +118,10 @@ run-typed [] l r = tt
 run-typed (c ∷ cs) l r = (in-range (c .call) (r .0 .0) (lentOf (c .lending) l) (c .result) (r .0 .1), run-typed cs (buffersAfter c l) (r .1))
 
 -- and it begins with what an accepted start leaves
-pub run-begins : (how : Start) (before after : Lent) → Begins how before after → (startedBy how before .code ≡ 0) × (startedBy how before .slices ≡ after)
+pub run-begins : (how : Start) (before after : Lent) → Begins how before after
+    → Typed (startAgain how) × (startedBy how before .code ≡ 0) × (startedBy how before .slices ≡ after)
 unfolding performed
 run-begins how before after b =
-    let e = step-is (startAgain how) (b .0) before (result 0 after []) (b .1) in
-    (ap (λ (r : Result). r .code) (sym e), ap (λ (r : Result). r .slices) (sym e))
+    let r = result 0 after (b .0) in
+    let e = step-is (startAgain how) (b .1 .0) before r (b .1 .1) in
+    (in-range (startAgain how) (b .1 .0) before r (b .1 .1), ap (λ (r : Result). r .code) (sym e), ap (λ (r : Result). r .slices) (sym e))

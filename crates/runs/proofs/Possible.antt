@@ -21,7 +21,7 @@ use Rattle.judgement.specs.declared.Verdict.{Verdict}
 use Rattle.judgement.specs.declared.Verdict.the-variants.{Refused, Accepted}
 use Rattle.judgement.specs.Order.{NoneHolds}
 use Rattle.contracts.specs.Timed.{Lent, lentWorld, lent, outcome, timedCall, judgeWaitOf, judgePortOf, waitInternal, waitAt, readIo, writeIo}
-use Rattle.contracts.specs.Calls.{plainStart, colourStart, TimedCall, plain, mreq, noMreq, portIn, portOut, Helper, lineAddr, lineOf, columnOf, attrRowOf, attrColumnOf, colourBits, Question, byteRead, pagingRead, interruptAsked, framesAsked, pageAsked, blockAsked, shownAsked, stillAsked, fileAsked, help, Call, startAgain, takeTime, writeByte, writePaging, resetPassed, loadRam, loadScreen, ask, Result, waited, timedOps, helpedBy, replied, performed, timedCauses}
+use Rattle.contracts.specs.Calls.{Start, plainStart, colourStart, snapshotStart, TimedCall, plain, mreq, noMreq, portIn, portOut, Helper, lineAddr, lineOf, columnOf, attrRowOf, attrColumnOf, colourBits, Question, byteRead, pagingRead, interruptAsked, framesAsked, pageAsked, blockAsked, shownAsked, stillAsked, fileAsked, snapshotAsked, help, Call, startAgain, takeTime, writeByte, writePaging, resetPassed, loadRam, loadScreen, ask, Result, waited, timedOps, helpedBy, replied, performed, timedCauses}
 use Rattle.contracts.proofs.Ranges.{TypedQuestion, Typed}
 use Rattle.contracts.proofs.Acts.{timedValue}
 use Rattle.contracts.specs.Helpers.{helperCall}
@@ -90,6 +90,7 @@ QuestionRoomy (blockAsked rom block) = Roomy rom
 QuestionRoomy shownAsked = Unit {0}
 QuestionRoomy (stillAsked flash) = Unit {0}
 QuestionRoomy fileAsked = Unit {0}
+QuestionRoomy (snapshotAsked registers) = Roomy registers
 QuestionRoomy (help h n) = Unit {0}
 
 abbrev pub TimedRoomy : TimedCall → Type 0
@@ -99,8 +100,13 @@ TimedRoomy (noMreq addr n) = Unit {0}
 TimedRoomy (portIn devices port) = Roomy devices
 TimedRoomy (portOut devices port value) = Roomy devices
 
+abbrev pub StartRoomy : Start → Type 0
+StartRoomy (plainStart machine) = Unit {0}
+StartRoomy (colourStart machine colour) = Unit {0}
+StartRoomy (snapshotStart machine file registers) = Roomy file × Roomy registers
+
 abbrev pub CallRoomy : Call → Type 0
-CallRoomy (startAgain how) = Unit {0}
+CallRoomy (startAgain how) = StartRoomy how
 CallRoomy (takeTime t answer) = TimedRoomy t × Roomy answer
 CallRoomy (writeByte addr value) = Unit {0}
 CallRoomy (writePaging value answer) = Roomy answer
@@ -152,6 +158,7 @@ module _ (at : ℕ → Where) (l : Lent) (r : LentRoomy l) where
   ask-on shownAsked out typed own = (([], ([], ([], ([], tt)))), ((room (l .state) (r .state), (room (l .a) (r .a), (room (l .b) (r .b), (room out (own .1), tt)))), refl))
   ask-on (stillAsked flash) out typed own = (([], ([], ([], tt))), ((room (l .state) (r .state), (room (l .ram) (r .ram), (room out (own .1), ((refl, typed), tt)))), refl))
   ask-on fileAsked out typed own = (([], ([], ([], tt))), ((room (l .state) (r .state), (room (l .ram) (r .ram), (room out (own .1), tt))), refl))
+  ask-on (snapshotAsked registers) out typed own = (([], ([], ([], ([], tt)))), ((room (l .state) (r .state), (room (l .ram) (r .ram), (room out (own .1), (room registers (own .0), tt)))), refl))
   ask-on (help h n) out typed own = (([], tt), helper-on h n out typed (own .1))
 
   -- EVERY CALL HAS A STEP.
@@ -159,6 +166,7 @@ module _ (at : ℕ → Where) (l : Lent) (r : LentRoomy l) where
   unfolding performed
   goes-on (startAgain (plainStart machine)) typed own = (([], ([], ([], ([], ([], tt))))), ((room (l .state) (r .state), (room (l .ram) (r .ram), (room (l .a) (r .a), (room (l .b) (r .b), (room (l .border) (r .border), ((refl, typed), tt)))))), refl), refl)
   goes-on (startAgain (colourStart machine colour)) typed own = (([], ([], ([], ([], ([], tt))))), ((room (l .state) (r .state), (room (l .ram) (r .ram), (room (l .a) (r .a), (room (l .b) (r .b), (room (l .border) (r .border), ((refl, typed .0), ((refl, typed .1), tt))))))), refl), refl)
+  goes-on (startAgain (snapshotStart machine file registers)) typed own = (([], ([], ([], ([], ([], ([], ([], tt))))))), ((room (l .state) (r .state), (room (l .ram) (r .ram), (room file (own .0), (room registers (own .1), (room (l .a) (r .a), (room (l .b) (r .b), (room (l .border) (r .border), ((refl, typed .0), tt)))))))), refl), typed .1)
   goes-on (takeTime t answer) typed own = timed-on t answer typed own
   goes-on (writeByte addr value) typed own = (([], ([], tt)), ((room (l .state) (r .state), (room (l .ram) (r .ram), ((refl, typed .0), ((refl, typed .1), tt)))), refl), refl, refl)
   goes-on (writePaging value answer) typed own = (([], ([], tt)), ((room (l .state) (r .state), ((refl, typed), (room answer own, tt))), refl), refl)

@@ -1,4 +1,4 @@
--- A RUN OF THE C FUNCTIONS: a start, either of the two, and then any calls. What a call may return and leave is said by the contract of the function that it calls, and by
+-- A RUN OF THE C FUNCTIONS: a start, either of the two, or an import, and then any calls. What a call may return and leave is said by the contract of the function that it calls, and by
 -- nothing else: `ulb-start.Post` is the `ensures` clause of `ulb_start` itself, which the check has proved of its code, at the arguments, the number
 -- returned and the parameters at exit; `kinds-start.ps` are the function's parameters with their types; and so for each function. No equation
 -- and no range is written out again here, so that none has to be held against the source by reading.
@@ -10,8 +10,9 @@ use contract.Lifetimes.{Lfts}
 use denote.Ref.{RefT}
 use denote.Triple.Clauses.{AtExit}
 use borrow.Fn.Kinds.{PK, RK, Out, Dens, GoodsP, resT, endedOf}
+use Rattle.record.specs.Words.{Bytes}
 use Rattle.contracts.specs.Timed.{Lent}
-use Rattle.contracts.specs.Calls.{Start, plainStart, colourStart, plain, mreq, noMreq, portIn, portOut, Helper, lineAddr, lineOf, columnOf, attrRowOf, attrColumnOf, colourBits, Question, byteRead, pagingRead, interruptAsked, framesAsked, pageAsked, blockAsked, shownAsked, stillAsked, fileAsked, help, Call, startAgain, takeTime, writeByte, writePaging, resetPassed, loadRam, loadScreen, ask, Result, result, withRam, withState, lentOf, Made, buffersAfter}
+use Rattle.contracts.specs.Calls.{Start, plainStart, colourStart, snapshotStart, plain, mreq, noMreq, portIn, portOut, Helper, lineAddr, lineOf, columnOf, attrRowOf, attrColumnOf, colourBits, Question, byteRead, pagingRead, interruptAsked, framesAsked, pageAsked, blockAsked, shownAsked, stillAsked, fileAsked, snapshotAsked, help, Call, startAgain, takeTime, writeByte, writePaging, resetPassed, loadRam, loadScreen, ask, Result, result, withRam, withState, lentOf, Made, buffersAfter}
 use Rattle.ulb_start.proofs.ulb_start.Reads as ulb-start
 use Rattle.ulb_start.proofs.ulb_start.Kinds as kinds-start
 use Rattle.ulb_start.proofs.ulb_start_colour.Reads as ulb-start-colour
@@ -50,6 +51,10 @@ use Rattle.ulb_scr.proofs.ulb_save_scr.Reads as ulb-save-scr
 use Rattle.ulb_scr.proofs.ulb_save_scr.Kinds as kinds-save-scr
 use Rattle.ulb_scr.proofs.ulb_load_scr.Reads as ulb-load-scr
 use Rattle.ulb_scr.proofs.ulb_load_scr.Kinds as kinds-load-scr
+use Rattle.ulb_sna.proofs.ulb_load_sna.Reads as ulb-load-sna
+use Rattle.ulb_sna.proofs.ulb_load_sna.Kinds as kinds-load-sna
+use Rattle.ulb_sna.proofs.ulb_save_sna.Reads as ulb-save-sna
+use Rattle.ulb_sna.proofs.ulb_save_sna.Kinds as kinds-save-sna
 use Rattle.ulb_pictures.proofs.ulb_shown_picture.Reads as ulb-shown-picture
 use Rattle.ulb_pictures.proofs.ulb_shown_picture.Kinds as kinds-shown-picture
 use Rattle.ulb_pictures.proofs.ulb_still_picture.Reads as ulb-still-picture
@@ -102,6 +107,10 @@ module _ (at : ℕ → Where) where
   abbrev pub six : {A : Type 0} → List ℕ → Lent → A → Slice × (Slice × (Slice × (Slice × (Slice × (Slice × A)))))
   six devices l rest = slice 0 (l .state) & slice 1 devices & slice 2 (l .ram) & paintings 3 l rest
 
+  -- with file and registers between RAM and the pictures, as an import has them
+  abbrev pub seven : {A : Type 0} → Lent → List ℕ → List ℕ → A → Slice × (Slice × (Slice × (Slice × (Slice × (Slice × (Slice × A))))))
+  seven l file registers rest = slice 0 (l .state) & slice 1 (l .ram) & slice 2 file & slice 3 registers & paintings 4 l rest
+
 -- A HELPER, each by the function that it is
 abbrev pub HelperAdmits : Helper → Lfts 1 → ℕ → Slice → ℕ → Slice → Type 0
 HelperAdmits lineAddr κs n answer code answer′ = Admits 1 kinds-bitmap-line-addr.ps kinds-bitmap-line-addr.r ulb-bitmap-line-addr.Post κs (n & answer & tt) code (n & answer′ & tt)
@@ -149,9 +158,14 @@ Replies fileAsked at l out code filled =
     (κs : Lfts 3) × Admits 3 kinds-save-scr.ps kinds-save-scr.r ulb-save-scr.Post κs
     (slice at 0 (l .state) & slice at 1 (l .ram) & slice at 2 out & tt) code
     (slice at 0 (l .state) & slice at 1 (l .ram) & slice at 2 filled & tt)
+Replies (snapshotAsked registers) at l out code filled =
+    (κs : Lfts 4) × Admits 4 kinds-save-sna.ps kinds-save-sna.r ulb-save-sna.Post κs
+    (slice at 0 (l .state) & slice at 1 (l .ram) & slice at 2 out & slice at 3 registers & tt) code
+    (slice at 0 (l .state) & slice at 1 (l .ram) & slice at 2 filled & slice at 3 registers & tt)
 Replies (help h n) at l out code filled = (κs : Lfts 1) × HelperAdmits h κs n (slice at 0 out) code (slice at 0 filled)
 
--- ANY CALL, on what is lent of the machine. A slice that is lent to be read comes back as it was; so do those that are not lent.
+-- ANY CALL, on what is lent of the machine. A slice that is lent to be read comes back as it was; so do those that are not lent. Of a slice the kit's
+-- `GoodsP` says the length alone; that every element of a snapshot is a byte, as in every slice of bytes in code, stands beside it (`Bytes`).
 abbrev pub Steps : Call → (at : ℕ → Where) → Lent → Result → Type 0
 Steps (startAgain (plainStart machine)) at l r =
     (κs : Lfts 5) × Admits 5 kinds-start.ps kinds-start.r ulb-start.Post κs
@@ -163,6 +177,11 @@ Steps (startAgain (colourStart machine colour)) at l r =
     (five at l (machine & colour & tt)) (r .code)
     (five at (r .slices) (machine & colour & tt))
     × (r .filled ≡ [])
+Steps (startAgain (snapshotStart machine file registers)) at l r =
+    (κs : Lfts 7) × Admits 7 kinds-load-sna.ps kinds-load-sna.r ulb-load-sna.Post κs
+    (seven at l file registers (machine & tt)) (r .code)
+    (seven at (r .slices) file (r .filled) (machine & tt))
+    × Bytes file
 Steps (takeTime (plain n) answer) at l r =
     (κs : Lfts 6) × Admits 6 kinds-wait-internal.ps kinds-wait-internal.r ulb-wait-internal.Post κs
     (five at l (n & slice at 5 answer & tt)) (r .code)
@@ -224,6 +243,6 @@ abbrev pub Run : List Made → Lent → Type 0
 Run [] l = Unit {0}
 Run (c ∷ cs) l = ((at : ℕ → Where) × Steps (c .call) at (lentOf (c .lending) l) (c .result)) × Run cs (buffersAfter c l)
 
--- a start that returned 0 and left the slices `after`
+-- a start that returned 0 and left the slices `after`, and an import's registers as they then stand
 abbrev pub Begins : Start → Lent → Lent → Type 0
-Begins how before after = (at : ℕ → Where) × Steps (startAgain how) at before (result 0 after [])
+Begins how before after = (filled : List ℕ) × ((at : ℕ → Where) × Steps (startAgain how) at before (result 0 after filled))

@@ -2,6 +2,7 @@
 -- one asks; a refused call leaves everything as it was.
 -- Assumes nothing.
 use Prim.Native.Nat.{ℕ}
+use native.Mathlib.Omega.{arith}
 use mathlib.Core.Path.{_≡_, refl, sym, ap, _∙_, subst}
 use mathlib.Core.Bool.{true}
 use mathlib.Core.List.{List, [], _∷_}
@@ -17,10 +18,9 @@ use Rattle.record.proofs.Soundness.{facts-sound}
 use Rattle.record.proofs.Round.{held-encode}
 use Rattle.memory.specs.Paging as paging
 use Rattle.memory.specs.Paging.{pagingAfter}
-use Rattle.bus.specs.World.{World, busOf, started, Sized}
+use Rattle.bus.specs.World.{World, busOf, Sized}
 use Rattle.bus.specs.Time.{worldAfter}
-use Rattle.bus.proofs.Lengths.{started-sized}
-use Rattle.bus.proofs.Kept.{SoundWorld, started-sound}
+use Rattle.bus.proofs.Kept.{SoundWorld}
 use Rattle.judgement.specs.Judges.{romFits}
 use Rattle.judgement.specs.Answers.{numberLength}
 use Rattle.judgement.specs.Order.{NoneHolds, Numbered}
@@ -28,11 +28,13 @@ use Rattle.judgement.proofs.Order.{state-ordered, wait-ordered, port-ordered, t
 use Rattle.contracts.specs.Timed.{Lent, lentBy, Outcome, lentWorld, startColour}
 use Rattle.contracts.specs.Plain.{Told, Changed}
 use Rattle.contracts.specs.Helpers.{helperCall}
-use Rattle.contracts.specs.Calls.{Start, colourStart, askedMachine, firstColour, startedBy, TimedCall, plain, mreq, noMreq, portIn, portOut, Helper, lineAddr, lineOf, columnOf, attrRowOf, attrColumnOf, colourBits, Question, byteRead, pagingRead, interruptAsked, framesAsked, pageAsked, blockAsked, shownAsked, stillAsked, fileAsked, help, Call, startAgain, takeTime, writeByte, writePaging, resetPassed, loadRam, loadScreen, ask, Result, result, withRam, withState, waited, opsOf, helpedBy, replied, performed, timedCauses, questionCauses, causesOf, refusedFilled, lentOf, handedBack, Made, buffersAfter, Obeyed, NotStarted, NoSecondStart}
+use Rattle.contracts.specs.Calls.{Start, colourStart, askedMachine, firstColour, startedWorld, startedBy, TimedCall, plain, mreq, noMreq, portIn, portOut, Helper, lineAddr, lineOf, columnOf, attrRowOf, attrColumnOf, colourBits, Question, byteRead, pagingRead, interruptAsked, framesAsked, pageAsked, blockAsked, shownAsked, stillAsked, fileAsked, snapshotAsked, help, Call, startAgain, takeTime, writeByte, writePaging, resetPassed, loadRam, loadScreen, ask, Result, result, withRam, withState, waited, opsOf, helpedBy, replied, performed, timedCauses, questionCauses, causesOf, refusedFilled, lentOf, handedBack, Made, buffersAfter, Obeyed, NotStarted, NoSecondStart}
 use Rattle.contracts.proofs.Ranges.{Typed, AllTyped}
 use Rattle.contracts.proofs.Still.{still-of}
 use Rattle.contracts.proofs.Calls.{call-numbered, call-refused}
-use Rattle.contracts.proofs.Starts.{start-left, first-small}
+use Rattle.contracts.proofs.Refusals.{save-sna-numbered}
+use Rattle.contracts.proofs.Snapshots.{export-is}
+use Rattle.contracts.proofs.Starts.{start-left, begun-sound, begun-sized}
 use Rattle.contracts.proofs.Acts.{sized-kept, acted}
 use Rattle.contracts.proofs.AsWhole.{as-whole, as-refused}
 use Rattle.rustzx.specs.Panics.{OrPanic, done, panics}
@@ -42,15 +44,15 @@ use Rattle.rustzx.specs.Related.{ourMachine, Related}
 use Rattle.rustzx.specs.Memory.{ramPageData, blockData}
 use Rattle.rustzx.specs.Calls as rustCalls
 use Rattle.rustzx.specs.Calls.{Given}
-use Rattle.surface.specs.Same.{SameLent, SameStart, SameBeam, SameTimed, SameHelp}
+use Rattle.surface.specs.Same.{SameLent, SameStart, Clears, SameBeam, SameTimed, SameHelp}
 use Rattle.surface.specs.Chain.{rustTimed, ValueOf, rustHelper, LeadsTo, SameReply, SameAnswer, SameCall, leftOn, AllSame, OwnRomAsked, OwnRom, OneRom}
 use Rattle.surface.proofs.OnMachine.{own}
 use Rattle.surface.proofs.Judged.{settled, rom-long}
-use Rattle.surface.proofs.StartSame.{beam-same, white-beam, white-same}
+use Rattle.surface.proofs.StartSame.{known, beam-same, start-same}
 use Rattle.surface.proofs.TimedSame.{wait-same, mreq-same, no-mreq-same, read-same, write-same}
 use Rattle.surface.proofs.PlainSame.{read-internal-same, read-7ffd-same, int-active-same, frames-count-same, write-internal-same, load-page-same, load-scr-same, save-scr-same, reset-same, write-7ffd-same}
 use Rattle.surface.proofs.PartSame.{ram-page-told-same, block-told-same, shown-told-same}
-use Rattle.surface.proofs.HelperSame.{line-addr-same, line-rel-same, col-rel-same, attr-row-same, attr-col-same, from-bits-same}
+use Rattle.surface.proofs.HelperSame.{line-addr-same, line-rel-same, col-rel-same, attr-row-same, attr-col-same, from-bits-same, some-lent}
 
 -- the state that a run ends in, or else c
 holder : ZXController → OrPanic Given → ZXController
@@ -168,6 +170,8 @@ module _ (rom : List ℕ) (c : ZXController) (l : Lent) (s : SameLent rom c l) w
       record { next = c; same = (ap (λ (x : Changed). x .slice) (still-of (l .state) (l .ram) picture flash bus (still-ordered (l .state) (length (l .ram)) (length picture) flash .noneAccepts h)), refl); leaves = s }
   reply-same fileAsked file its h =
       record { next = c; same = (save-scr-same bus (l .ram) (l .a) (l .b) (l .border) rom c (here .machine) (here .related) (l .state) file (save-scr-ordered (l .state) (length (l .ram)) (length file) .noneAccepts h), refl); leaves = s }
+  reply-same (snapshotAsked registers) file its h =
+      record { next = c; same = (ap (λ (x : Changed). x .slice) (export-is (l .state) (l .ram) file registers (save-sna-numbered (l .state) (l .ram) file registers .noneIsZero h)), refl); leaves = s }
   reply-same (help helper n) answer its h = record { next = c; same = (helped-same helper n answer (eqb-true (length answer) numberLength (not-false _ (h .0))), refl); leaves = s }
 
   -- ---- ONE CALL, accepted, on the buffers that hold the Rust's machine.
@@ -246,22 +250,31 @@ module _ (rom : List ℕ) (m : ZXMachine) where
             ),
       )
 
--- EITHER START, AND THEN ANY CALLS: those of the Rust, once its new controller's beam has the start's colour.
-pub from-any-start : (how : Start) (l : Lent) (rom : List ℕ) → length rom ≡ specsOf (machineOf (askedMachine how)) .rom → startedBy how l .code ≡ 0
-    → (s : SameBeam (askedMachine how) (firstColour how) rom (startedBy how l)) × ((cs : List Made) → Obeyed cs (startedBy how l .slices) → AllTyped cs
-    → NoSecondStart cs → OneRom rom cs → AllSame rom cs (withRom rom (setBeam (s .color) (new (s .machine)))) (startedBy how l .slices))
-from-any-start how l rom long z =
-    let s = beam-same how l rom long z in
+-- A START OR AN IMPORT, AND THEN ANY CALLS: those of the Rust, from any controller that holds what it left.
+pub from-held : (how : Start) (l : Lent) (rom : List ℕ) → Typed (startAgain how) → startedBy how l .code ≡ 0 → (cs : List Made) → Obeyed cs (startedBy how l .slices)
+    → AllTyped cs → NoSecondStart cs → OneRom rom cs → (c : ZXController) → SameLent rom c (startedBy how l .slices) → AllSame rom cs c (startedBy how l .slices)
+from-held how l rom typed z cs obeyed all first its c s =
+    let e = start-left how l z in
+    subst (AllSame rom cs c) (sym e)
+    (all-same rom (machineOf (askedMachine how)) cs (startedWorld how) (begun-sound how l typed z) (begun-sized how l z) (subst (Obeyed cs) e obeyed) all first its c
+    (subst (SameLent rom c) e s))
+
+-- and there is one
+pub held-by-some : (how : Start) (l : Lent) (rom : List ℕ) → Typed (startAgain how) → length rom ≡ specsOf (machineOf (askedMachine how)) .rom → startedBy how l .code ≡ 0
+    → (c : ZXController) × SameLent rom c (startedBy how l .slices)
+held-by-some how l rom typed long z =
     let m = machineOf (askedMachine how) in
-    let colour = firstColour how in
-    let c = withRom rom (setBeam (s .color) (new (s .machine))) in
-    let e = start-left how l z in (
-      s,
-      λ cs obeyed typed first its.
-          subst (AllSame rom cs c) (sym e)
-          (all-same rom m cs (started m colour) (started-sound m colour (first-small how l z)) (started-sized m colour) (subst (Obeyed cs) e obeyed) typed first its c
-          (subst (SameLent rom c) e (s .leaves))),
-    )
+    let w = startedWorld how in
+    subst (λ (x : Lent). (c : ZXController) × SameLent rom c x) (sym (start-left how l z))
+    (some-lent (busOf m w) (lentBy m w) rom (held-encode (busOf m w) (facts-sound (busOf m w) (begun-sound how l typed z))) (begun-sized how l z .ram) long)
+
+-- EITHER START, AND THEN ANY CALLS: those of the Rust, once its new controller's beam has the start's colour.
+pub from-any-start : (how : Start) → Clears how → (l : Lent) (rom : List ℕ) → Typed (startAgain how) → length rom ≡ specsOf (machineOf (askedMachine how)) .rom
+    → startedBy how l .code ≡ 0 → (s : SameBeam (askedMachine how) (firstColour how) rom (startedBy how l)) × ((cs : List Made) → Obeyed cs (startedBy how l .slices)
+    → AllTyped cs → NoSecondStart cs → OneRom rom cs → AllSame rom cs (withRom rom (setBeam (s .color) (new (s .machine)))) (startedBy how l .slices))
+from-any-start how clears l rom typed long z =
+    let s = beam-same how clears l rom long z in
+    (s, λ cs obeyed all first its. from-held how l rom typed z cs obeyed all first its (withRom rom (setBeam (s .color) (new (s .machine)))) (s .leaves))
 
 -- A START WITH COLOUR 7, AND THEN ANY CALLS: those of the Rust from its new controller on.
 pub from-start : (l : Lent) (number : ℕ) (rom : List ℕ) → length rom ≡ specsOf (machineOf number) .rom → startColour l number 7 .code ≡ 0
@@ -269,8 +282,9 @@ pub from-start : (l : Lent) (number : ℕ) (rom : List ℕ) → length rom ≡ s
     → NoSecondStart cs → OneRom rom cs → AllSame rom cs (withRom rom (new (s .machine))) (startColour l number 7 .slices))
 from-start l number rom long z =
     let x = startColour l number 7 in
-    let any = from-any-start (colourStart number 7) l rom long z in (
-      white-same number rom x (any .0),
+    let same = start-same l number rom long z in
+    let few = known (colourStart number 7) l z in (
+      same,
       λ cs obeyed typed first its.
-          subst (λ (c : ZXController). AllSame rom cs (withRom rom c) (x .slices)) (white-beam (any .0 .machine) (any .0 .color) (any .0 .coloured)) (any .1 cs obeyed typed first its),
+          from-held (colourStart number 7) l rom (omega arith, omega arith) z cs obeyed typed first its (withRom rom (new (same .machine))) (same .leaves),
     )

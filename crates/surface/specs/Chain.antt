@@ -1,4 +1,4 @@
--- Any calls after a start, each with what it left, and the Rust beside them: which call of the Rust each is, and what it is that all of them are the
+-- Any calls after a start or an import, each with what it left, and the Rust beside them: which call of the Rust each is, and what it is that all of them are the
 -- Rust's. Calls that are lent too little or too much, starts that are refused, helpers and still pictures are among them.
 -- Assumes nothing.
 use Prim.Native.Nat.{ℕ}
@@ -11,10 +11,11 @@ use Rattle.ports.specs.Devices.{devicesOf}
 use Rattle.memory.specs.Memory.{ramPage}
 use Rattle.memory.specs.Screens.{screenFile}
 use Rattle.record.specs.Record.{recordOf}
+use Rattle.snapshot.specs.Kept.{snapshotFile}
 use Rattle.judgement.specs.Order.{Numbered}
 use Rattle.contracts.specs.Timed.{Lent, outcome}
 use Rattle.contracts.specs.Plain.{Told, told, stillOf}
-use Rattle.contracts.specs.Calls.{TimedCall, plain, mreq, noMreq, portIn, portOut, Helper, lineAddr, lineOf, columnOf, attrRowOf, attrColumnOf, colourBits, Question, byteRead, pagingRead, interruptAsked, framesAsked, pageAsked, blockAsked, shownAsked, stillAsked, fileAsked, help, Call, startAgain, takeTime, writeByte, writePaging, resetPassed, loadRam, loadScreen, ask, Result, result, causesOf, refusedFilled, lentOf, Made, buffersAfter, Each}
+use Rattle.contracts.specs.Calls.{TimedCall, plain, mreq, noMreq, portIn, portOut, Helper, lineAddr, lineOf, columnOf, attrRowOf, attrColumnOf, colourBits, Question, byteRead, pagingRead, interruptAsked, framesAsked, pageAsked, blockAsked, shownAsked, stillAsked, fileAsked, snapshotAsked, help, Call, startAgain, takeTime, writeByte, writePaging, resetPassed, loadRam, loadScreen, ask, Result, result, causesOf, refusedFilled, lentOf, Made, buffersAfter, Each}
 use Rattle.rustzx.specs.Panics.{OrPanic, done, onDone}
 use Rattle.rustzx.specs.Controller.{ZXController}
 use Rattle.rustzx.specs.Calls as rust
@@ -62,7 +63,7 @@ pub record LeadsTo (k : rust.Call) (c next : ZXController) : Type 0 where
   pub then : given .controller ≡ next
 
 -- what the Rust says of an answered question. The still picture is an addition that the Rust has not: it is ours (contracts, specs/Plain), of "the page
--- now shown" (02, Q-1), and the Rust's machine stays as it was.
+-- now shown" (02, Q-1), and the Rust's machine stays as it was. So is a snapshot that is written (02, Q-4): the file of record, RAM and registers.
 abbrev pub SameReply : List ℕ → Question → ZXController → ZXController → Lent → Told → Type 0
 SameReply rom (byteRead lent addr) c next l t = SameTold (rust.readInternal addr) c t × LeadsTo (rust.readInternal addr) c next
 SameReply rom pagingRead c next l t = SameTold rust.read7ffd c t × LeadsTo rust.read7ffd c next
@@ -74,6 +75,9 @@ SameReply rom shownAsked c next l t = SameFound rust.screenBuffer c t pictureLen
 SameReply rom (stillAsked flash) c next l t =
     (t .answer ≡ stillOf (recordOf (l .state)) (l .ram) (eqb flash 1)) × (next ≡ c)
 SameReply rom fileAsked c next l t = SameFile c (t .answer) × (next ≡ c)
+SameReply rom (snapshotAsked registers) c next l t =
+    let bus = recordOf (l .state) in
+    (t .answer ≡ snapshotFile (bus .machine) (bus .paging) (bus .reported) (l .ram) registers) × (next ≡ c)
 SameReply rom (help h n) c next l t = SameHelp (rustHelper h n) t × (next ≡ c)
 
 -- what the Rust says of an accepted call on the buffers l: r has the number, the buffers afterwards and the answer. A second start is none.
@@ -123,6 +127,7 @@ OwnRomAsked rom (blockAsked lent block) = length lent ≡ length rom → lent �
 OwnRomAsked rom shownAsked = Unit {0}
 OwnRomAsked rom (stillAsked flash) = Unit {0}
 OwnRomAsked rom fileAsked = Unit {0}
+OwnRomAsked rom (snapshotAsked registers) = Unit {0}
 OwnRomAsked rom (help h n) = Unit {0}
 
 abbrev pub OwnRom : List ℕ → Call → Type 0

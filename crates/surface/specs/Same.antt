@@ -15,6 +15,7 @@ use Rattle.bus.specs.World.{World, busOf}
 use Rattle.judgement.specs.Answers.{timedAnswer, numberAnswer}
 use Rattle.contracts.specs.Timed.{Lent, Outcome, lentBy, lentWorld, Started}
 use Rattle.contracts.specs.Plain.{Told}
+use Rattle.contracts.specs.Calls.{Start, plainStart, colourStart, snapshotStart}
 use Rattle.rustzx.specs.Panics.{OrPanic, done, panics}
 use Rattle.rustzx.specs.Controller.{ZXController, new, withRom, setBeam}
 use Rattle.rustzx.specs.Machine.{ZXMachine}
@@ -40,6 +41,12 @@ pub record SameStart (number : ℕ) (rom : List ℕ) (s : Started) : Type 0 wher
   pub machine : ZXMachine
   pub named : Names number machine
   pub leaves : SameLent rom (withRom rom (new machine)) (s .slices)
+
+-- the two starts, which clear RAM; the Rust has no import (02, Q-4)
+abbrev pub Clears : Start → Type 0
+Clears (plainStart machine) = Unit {0}
+Clears (colourStart machine colour) = Unit {0}
+Clears (snapshotStart machine file registers) = ⊥
 
 -- an accepted start with any colour, of which the Rust has none: what it leaves is the Rust's new controller whose beam was given that colour, before any
 -- clock, by its own set_border

@@ -1,34 +1,18 @@
 -- The two ways out of a start, over plain values: `v` is the verdict that the code holds.
 -- Assumes nothing.
 use Prim.Native.Nat.{ℕ}
-use mathlib.Core.Path.{_≡_, ap, _∙_}
+use mathlib.Core.Path.{_≡_, _∙_}
 use mathlib.Core.List.{List}
 use lib.ListN.{length, replicate}
-use Rattle.machine.specs.declared.ZXMachine.{ZXMachine}
-use Rattle.machine.specs.Numbers.{specsOf}
-use Rattle.machine.specs.Limits.{pictureLength, borderLength}
 use Rattle.record.specs.declared.Bus.{Bus}
 use Rattle.record.specs.Record.{recordBytes, machineOf}
-use Rattle.bus.specs.World.{clearRam, clearPicture, clearBorder}
 use Rattle.judgement.specs.declared.Refusal.{Refusal}
 use Rattle.judgement.specs.declared.Verdict.{Verdict}
 use Rattle.judgement.specs.declared.Verdict.the-variants.{Refused, Accepted}
 use Rattle.judgement.specs.Refusals.{refusalNumber}
 use Rattle.judgement.proofs.Accepted.{ready-start}
+use Rattle.contracts.proofs.Leaves.{ram-cleared, picture-cleared, border-cleared}
 use Rattle.contracts.specs.Timed.{Lent, lent, startLeaves, begun, judgeStartOf, startColour}
-
--- zeros as many as the start asks for
-ram-cleared : (m : ZXMachine) (n : ℕ) → n ≡ specsOf m .ram → replicate n 0 ≡ clearRam m
-unfolding clearRam
-ram-cleared m n e = ap (λ (k : ℕ). replicate k 0) e
-
-picture-cleared : (n : ℕ) → n ≡ pictureLength → replicate n 0 ≡ clearPicture
-unfolding clearPicture
-picture-cleared n e = ap (λ (k : ℕ). replicate k 0) e
-
-border-cleared : (n : ℕ) → n ≡ borderLength → replicate n 0 ≡ clearBorder
-unfolding clearBorder
-border-cleared n e = ap (λ (k : ℕ). replicate k 0) e
 
 module _ (l : Lent) (machine colour : ℕ) (v : Verdict) (judged : v ≡ judgeStartOf l machine colour) where
   pub start-refused : (e : Refusal) (r : ℕ) → v ≡ Refused e → r ≡ refusalNumber e → startLeaves r l ≡ startColour l machine colour

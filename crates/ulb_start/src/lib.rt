@@ -2,22 +2,10 @@
 // What it promises: each call accepts all bytes and numbers; what it returns, and every slice that it was lent at exit, is its definition of the slices at entry and the numbers.
 // Where its definitions stand: crate contracts, specs/Timed.antt; for which causes each is refused: crate judgement, specs/Judges.antt.
 ghost use mathlib.Core.Path.{_≡_};
-ghost use Rattle.judgement.specs.Judges.{startFits, judgeStart};
+ghost use Rattle.judgement.specs.Judges.{judgeStart};
 ghost use Rattle.contracts.specs.Timed.{lent, startLeaves, startColour, start};
 use judgement::Refusal;
 use judgement::Verdict;
-use machine::ZXMachine;
-
-fn start_fits(m: ZXMachine, state: usize, ram: usize, a: usize, b: usize, border: usize) -> bool
-    ensures { λ r. ⌜ r ≡ startFits m state ram a b border ⌝ }
-{
-    let specs = m.specs();
-    (state == record::LENGTH)
-        & (ram == specs.ram)
-        & (a == machine::PICTURE_LENGTH)
-        & (b == machine::PICTURE_LENGTH)
-        & (border == machine::BORDER_LENGTH)
-}
 
 // The causes in their order: machine, lengths, colour. Accepted, with the record that is to be written.
 fn judge_start(
@@ -35,7 +23,7 @@ fn judge_start(
         return Verdict::Refused(Refusal::BadMachine);
     }
     let m = record::machine_from(machine as u8);
-    let fits = start_fits(m, state, ram, a, b, border);
+    let fits = judgement::start_fits(m, state, ram, a, b, border);
     if !fits {
         return Verdict::Refused(Refusal::BadLength);
     }

@@ -1,8 +1,8 @@
 -- The tests are the definition's, in its order.
 -- Assumes nothing.
 use borrow.Author.Needs.{needs}
-use Rattle.ulb_start.proofs.start_fits.Statement.{statement}
-use Rattle.ulb_start.proofs.start_fits.Tie as tie
+use Rattle.judgement.proofs.start_fits.Statement.{statement}
+use Rattle.judgement.proofs.start_fits.Tie as tie
 
 specs-requires : tie.Need-specs-requires
 specs-requires c κs = search needs
