@@ -2,27 +2,21 @@
  *
  * What a screen file shows is the library's to say: a PNG is the still picture of the file as the library loads it, and
  * a file is what the library saves, loaded once more and held to the PNG before a byte of it is written. */
-#define _XOPEN_SOURCE 700 /* realpath, stat, access */
-#include <ctype.h>
-#include <errno.h>
-#include <limits.h>
-#include <stdarg.h>
 #include <stdbool.h>
 #include <stdio.h>
 #include <stdlib.h>
 #include <string.h>
-#include <strings.h>
-#include <sys/stat.h>
-#include <unistd.h>
+#include "files.h"
 #include "png.h"
 #include "png_read.h"
 #include "ulb.h"
 
 enum { WIDTH = PNG_READ_WIDTH, HEIGHT = PNG_READ_HEIGHT, ROWS = HEIGHT / 8, COLUMNS = WIDTH / 8, LISTED = 20 };
-enum { DONE = 0, REFUSED = 1, WRONG_WORDS = 2 };
 
 typedef struct { const char *in, *out; bool flash, over; } words;
 typedef uint8_t picture[HEIGHT][WIDTH]; /* a colour number a pixel */
+
+const char program[] = "scr";
 
 static const char *const colour_names[PNG_COLOURS] = {
     "black",        "blue",        "red",        "magenta",        "green",        "cyan",        "yellow",
@@ -72,17 +66,6 @@ static void usage(void) {
          "wrong ones.");
 }
 
-/* One line on the error output; the status to go out with. */
-static int refuse(const char *name, const char *form, ...) {
-    va_list words;
-    va_start(words, form);
-    fprintf(stderr, "scr: %s: ", name);
-    vfprintf(stderr, form, words);
-    fputc('\n', stderr);
-    va_end(words);
-    return REFUSED;
-}
-
 static int refuse_words(const char *what, const char *word) {
     fprintf(stderr, "scr: %s%s; run scr without words to see what it takes\n", what, word);
     return WRONG_WORDS;
@@ -125,65 +108,26 @@ enum { MOST = 16 << 20 }; /* bytes of IN; the picture itself needs 400,000 at th
 static uint8_t in[MOST + 1];
 static size_t in_len;
 
-static int read_in(const char *path) {
-    FILE *f = fopen(path, "rb");
-    if (f == NULL) return refuse(path, "%s", strerror(errno));
-    in_len = fread(in, 1, sizeof in, f);
-    int failed = ferror(f) ? errno : 0;
-    fclose(f);
-    if (failed) return refuse(path, "%s", strerror(failed));
-    return in_len > MOST ? refuse(path, "it has more than 16 MiB, and is not read") : DONE;
-}
-
 /* As a screen's first bytes a PNG's mark would be strange: what starts with it is a PNG, even of 6,912 bytes. */
 static bool in_is_png(void) { return in_len >= PNG_MARK_BYTES && memcmp(in, png_mark, PNG_MARK_BYTES) == 0; }
 
-static bool ends_in(const char *name, const char *ending) {
-    size_t n = strlen(name), k = strlen(ending);
-    return n >= k && strcasecmp(name + n - k, ending) == 0;
-}
-
 /* Whoever swaps the two words must not lose a picture: OUT is not IN, nor named like it, nor there already. */
-static int judge_out(const words *w) {
-    struct stat from, to;
-    bool there = stat(w->out, &to) == 0; /* if it cannot be asked for another reason, the write says so */
-    if (there && stat(w->in, &from) == 0 && from.st_dev == to.st_dev && from.st_ino == to.st_ino)
-        return refuse(w->out, "IN and OUT are the same file; nothing was written");
+static int judge_names(const words *w) {
+    if (same_file(w->in, w->out)) return refuse(w->out, "IN and OUT are the same file; nothing was written");
     const char *kind = in_is_png() ? "a PNG" : "an SCR file", *other = in_is_png() ? "an SCR file" : "a PNG";
     if (ends_in(w->out, in_is_png() ? ".png" : ".scr"))
         return refuse(w->out, "it is named like %s, and would be %s, since %s is %s: swapped? nothing was written",
                       kind, other, w->in, kind);
-    if (!there) return DONE;
-    if (!S_ISREG(to.st_mode)) return refuse(w->out, "it is there already, and is no file; nothing was written");
-    if (!w->over) return refuse(w->out, "it is there already, and was left alone: add --over to write over it");
-    return access(w->out, W_OK) == 0 ? DONE : refuse(w->out, "%s; nothing was written", strerror(errno));
+    return judge_out(w->out, w->over);
 }
 
 /* What is written into OUT: a screen file if `file` is not NULL, else a picture. */
 typedef struct { const uint8_t *file; const uint8_t *pixels; } content;
 
-static bool put(FILE *f, const content *c) {
+static bool put(FILE *f, const void *what) {
+    const content *c = what;
     if (c->file != NULL) return fwrite(c->file, ULB_SCREEN_FILE_BYTES, 1, f) == 1;
     return png_write(f, c->pixels, WIDTH, HEIGHT) == 0;
-}
-
-/* Into a new file beside OUT, which then takes its place: if a write fails, what was there is still there. */
-static int write_out(const char *out, const content *c) {
-    static char real[PATH_MAX], beside[PATH_MAX + 32];
-    const char *path = realpath(out, real) != NULL ? real : out; /* behind a link, the file that it stands for */
-    snprintf(beside, sizeof beside, "%s.%ld.new", path, (long)getpid());
-    FILE *f = fopen(beside, "wbx");
-    if (f == NULL) return refuse(out, "%s; nothing was written", strerror(errno));
-    bool written = put(f, c);
-    int failed = errno;
-    if (fclose(f) != 0 && written) {
-        written = false;
-        failed = errno;
-    }
-    if (written && rename(beside, path) == 0) return DONE;
-    if (written) failed = errno;
-    remove(beside);
-    return refuse(out, "%s; nothing was written", strerror(failed));
 }
 
 /* ---- SCR to PNG ------------------------------------------------------------------------------------------------- */
@@ -212,14 +156,14 @@ static int scr_to_png(const words *w) {
     if (in_len != ULB_SCREEN_FILE_BYTES)
         return refuse(w->in, "it has %lu bytes: no SCR file, which has 6912, and no PNG either; nothing was written",
                       (unsigned long)in_len);
-    int status = judge_out(w);
+    int status = judge_names(w);
     if (status != DONE) return status;
     still(in, w->flash, shown);
     still(in, !w->flash, exchanged);
     one_black(shown);
     one_black(exchanged);
     content c = {NULL, shown[0]};
-    status = write_out(w->out, &c);
+    status = write_file(w->out, put, &c);
     if (status != DONE) return status;
     printf("%s: written, the screen of %s as 256 x 192 pixels\n", w->out, w->in);
     unsigned flashing = flashing_cells(shown, exchanged);
@@ -416,7 +360,7 @@ static int png_to_scr(const words *w) {
     static uint8_t file[ULB_SCREEN_FILE_BYTES];
     char why[PNG_WHY_BYTES];
     if (w->flash) return refuse(w->in, "it is a PNG, and --flash is for an SCR file");
-    int status = judge_out(w);
+    int status = judge_names(w);
     if (status != DONE) return status;
     if (!png_read(in, in_len, pixels, why)) return refuse(w->in, "%s; nothing was written", why);
     bool coloured = find_colours(w, colours), fits = judge_cells(w, colours);
@@ -425,7 +369,7 @@ static int png_to_scr(const words *w) {
     status = check_file(w, file);
     if (status != DONE) return status;
     content c = {file, NULL};
-    status = write_out(w->out, &c);
+    status = write_file(w->out, put, &c);
     if (status == DONE) printf("%s: written, 6912 bytes that show every pixel of %s\n", w->out, w->in);
     return status;
 }
@@ -451,7 +395,7 @@ int main(int argc, char **argv) {
         else return refuse_words("one word too many: ", argv[i]);
     }
     if (w.out == NULL) return refuse_words("two names are needed, IN and OUT", "");
-    int status = read_in(w.in);
+    int status = read_file(w.in, in, MOST, &in_len);
     if (status != DONE) return status;
     return in_is_png() ? png_to_scr(&w) : scr_to_png(&w);
 }

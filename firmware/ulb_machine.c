@@ -10,11 +10,18 @@
 #define PICTURES m->a, sizeof m->a, m->b, sizeof m->b
 #define PAINTED PICTURES, m->border, sizeof m->border
 
+/* Where things stand in the state record (docs/LAYOUTS.md). */
+enum { KIND_AT = 5, PAGING_AT = 17 };
+
 /* How far ram[0] lies from rom[0] in the struct. */
 #define RAM_FROM_ROM (offsetof(ulb_machine, ram) - offsetof(ulb_machine, rom))
 
 static uint16_t word16(const uint8_t *p) { return (uint16_t)(p[0] | p[1] << 8); }
 static uint32_t word32(const uint8_t *p) { return word16(p) | (uint32_t)word16(p + 2) << 16; }
+static void put16(uint8_t *p, uint16_t v) {
+    p[0] = (uint8_t)v;
+    p[1] = (uint8_t)(v >> 8);
+}
 
 static ulb_timed timed(uint8_t refusal, const uint8_t *answer) {
     ulb_timed t;
@@ -64,20 +71,30 @@ static uint8_t renew_map(ulb_machine *m) {
     return ULB_OK;
 }
 
-uint8_t ulb_machine_init_colour(ulb_machine *m, uint32_t kind, const uint8_t *rom, size_t rom_len, uint32_t colour) {
+static size_t rom_bytes(uint32_t kind) { return kind == ULB_48K ? ULB_ROM_BYTES_48K : ULB_ROM_BYTES_128K; }
+static size_t ram_bytes(uint32_t kind) { return kind == ULB_48K ? ULB_RAM_BYTES_48K : ULB_RAM_BYTES_128K; }
+
+/* What a first start judges by itself, before its call is made. */
+static uint8_t judge_kind_and_rom(uint32_t kind, const uint8_t *rom, size_t rom_len) {
     if (kind > ULB_128K) return ULB_BAD_MACHINE;
-    size_t wanted = kind == ULB_48K ? ULB_ROM_BYTES_48K : ULB_ROM_BYTES_128K;
-    size_t ram_len = kind == ULB_48K ? ULB_RAM_BYTES_48K : ULB_RAM_BYTES_128K;
-    if (rom == NULL || rom_len != wanted) return ULB_BAD_LENGTH;
-    /* before all else that is written: it judges the colour, and refused it leaves the machine as it was */
-    uint8_t refusal = ulb_start_colour(STATE, m->ram, ram_len, PAINTED, kind, colour);
-    if (refusal != ULB_OK) return refusal;
+    return rom == NULL || rom_len != rom_bytes(kind) ? ULB_BAD_LENGTH : ULB_OK;
+}
+
+/* What a first start writes besides, once its call was accepted. */
+static uint8_t furnish(ulb_machine *m, uint32_t kind, const uint8_t *rom) {
     m->kind = kind;
-    m->rom_len = wanted;
-    m->ram_len = ram_len;
-    memcpy(m->rom, rom, wanted);
+    m->rom_len = rom_bytes(kind);
+    m->ram_len = ram_bytes(kind);
+    memcpy(m->rom, rom, m->rom_len);
     ulb_machine_no_devices(m);
     return renew_map(m);
+}
+
+uint8_t ulb_machine_init_colour(ulb_machine *m, uint32_t kind, const uint8_t *rom, size_t rom_len, uint32_t colour) {
+    uint8_t refusal = judge_kind_and_rom(kind, rom, rom_len);
+    /* before all else that is written: it judges the colour, and refused it leaves the machine as it was */
+    if (refusal == ULB_OK) refusal = ulb_start_colour(STATE, m->ram, ram_bytes(kind), PAINTED, kind, colour);
+    return refusal == ULB_OK ? furnish(m, kind, rom) : refusal;
 }
 
 uint8_t ulb_machine_init(ulb_machine *m, uint32_t kind, const uint8_t *rom, size_t rom_len) {
@@ -90,6 +107,80 @@ uint8_t ulb_machine_restart_colour(ulb_machine *m, uint32_t colour) {
 }
 
 uint8_t ulb_machine_restart(ulb_machine *m) { return ulb_machine_restart_colour(m, 0); }
+
+uint8_t ulb_machine_init_sna(ulb_machine *m, uint32_t kind, const uint8_t *rom, size_t rom_len, const uint8_t *file,
+                             size_t file_len, uint8_t registers[ULB_REGISTER_BYTES]) {
+    uint8_t refusal = judge_kind_and_rom(kind, rom, rom_len);
+    /* before all else that is written, as above: it judges the file */
+    if (refusal == ULB_OK)
+        refusal = ulb_load_sna(STATE, m->ram, ram_bytes(kind), file, file_len, registers, ULB_REGISTER_BYTES, PAINTED, kind);
+    return refusal == ULB_OK ? furnish(m, kind, rom) : refusal;
+}
+
+uint8_t ulb_machine_load_sna(ulb_machine *m, const uint8_t *file, size_t len, uint8_t registers[ULB_REGISTER_BYTES]) {
+    uint8_t refusal = ulb_load_sna(STATE, RAM, file, len, registers, ULB_REGISTER_BYTES, PAINTED, m->kind);
+    return refusal == ULB_OK ? renew_map(m) : refusal;
+}
+
+size_t ulb_machine_sna_bytes(const ulb_machine *m) {
+    if (m->kind == ULB_48K) return ULB_SNA_BYTES_48K;
+    unsigned paged = m->state[PAGING_AT] & 7;
+    return paged == 5 || paged == 2 ? ULB_SNA_BYTES_128K_TWICE : ULB_SNA_BYTES_128K;
+}
+
+uint8_t ulb_machine_save_sna(ulb_machine *m, uint8_t *file, size_t len, const uint8_t registers[ULB_REGISTER_BYTES]) {
+    return ulb_save_sna(STATE, RAM, file, len, registers, ULB_REGISTER_BYTES);
+}
+
+/* Where the registers stand (docs/LAYOUTS.md). */
+enum {
+    I_AT = 0, HL2_AT = 1, DE2_AT = 3, BC2_AT = 5, AF2_AT = 7, HL_AT = 9, DE_AT = 11, BC_AT = 13, IY_AT = 15, IX_AT = 17,
+    IFF_AT = 19, R_AT = 20, AF_AT = 21, SP_AT = 23, IM_AT = 25, BORDER_AT = 26, PC_AT = 27, TR_DOS_AT = 29
+};
+
+ulb_z80_registers ulb_z80_registers_of(const uint8_t bytes[ULB_REGISTER_BYTES]) {
+    ulb_z80_registers z;
+    z.af = word16(bytes + AF_AT);
+    z.bc = word16(bytes + BC_AT);
+    z.de = word16(bytes + DE_AT);
+    z.hl = word16(bytes + HL_AT);
+    z.ix = word16(bytes + IX_AT);
+    z.iy = word16(bytes + IY_AT);
+    z.sp = word16(bytes + SP_AT);
+    z.af2 = word16(bytes + AF2_AT);
+    z.bc2 = word16(bytes + BC2_AT);
+    z.de2 = word16(bytes + DE2_AT);
+    z.hl2 = word16(bytes + HL2_AT);
+    z.pc = word16(bytes + PC_AT);
+    z.i = bytes[I_AT];
+    z.r = bytes[R_AT];
+    z.iff = bytes[IFF_AT];
+    z.im = bytes[IM_AT];
+    z.border = bytes[BORDER_AT];
+    z.tr_dos = bytes[TR_DOS_AT];
+    return z;
+}
+
+void ulb_z80_registers_to(const ulb_z80_registers *z, uint8_t bytes[ULB_REGISTER_BYTES]) {
+    put16(bytes + AF_AT, z->af);
+    put16(bytes + BC_AT, z->bc);
+    put16(bytes + DE_AT, z->de);
+    put16(bytes + HL_AT, z->hl);
+    put16(bytes + IX_AT, z->ix);
+    put16(bytes + IY_AT, z->iy);
+    put16(bytes + SP_AT, z->sp);
+    put16(bytes + AF2_AT, z->af2);
+    put16(bytes + BC2_AT, z->bc2);
+    put16(bytes + DE2_AT, z->de2);
+    put16(bytes + HL2_AT, z->hl2);
+    put16(bytes + PC_AT, z->pc);
+    bytes[I_AT] = z->i;
+    bytes[R_AT] = z->r;
+    bytes[IFF_AT] = z->iff;
+    bytes[IM_AT] = z->im;
+    bytes[BORDER_AT] = z->border;
+    bytes[TR_DOS_AT] = z->tr_dos;
+}
 
 ulb_timed ulb_machine_wait(ulb_machine *m, uint32_t clocks) {
     uint8_t answer[ULB_TIMED_ANSWER_BYTES] = {0};
@@ -182,7 +273,6 @@ ulb_number ulb_machine_frames_count(ulb_machine *m) {
 uint8_t ulb_machine_reset_frame_counter(ulb_machine *m) { return ulb_reset_frame_counter(STATE); }
 
 uint8_t ulb_machine_load_state(ulb_machine *m, const uint8_t *state, size_t len) {
-    enum { KIND_AT = 5 };
     if (len != sizeof m->state || state[KIND_AT] != m->kind) return ULB_BAD_LENGTH;
     uint8_t before[ULB_STATE_BYTES];
     memcpy(before, m->state, sizeof before);
@@ -273,7 +363,8 @@ const char *ulb_refusal_text(uint8_t refusal) {
         "accepted", "machine above 1", "a slice has the wrong length", "the state record is not sound",
         "a device flag or the tape bit is above 1", "a wait above 65,535 clocks",
         "passed frames are full: reset the frame counter", "no such RAM page", "a number outside its range",
-        "a RAM page that is no video page",
+        "a RAM page that is no video page", "a snapshot's size is not the one due",
+        "the two copies of a bank in a snapshot differ",
     };
     return refusal < sizeof text / sizeof *text ? text[refusal] : "no refusal has this number";
 }

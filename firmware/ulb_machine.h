@@ -9,8 +9,8 @@
  *     if (t.closed) show(ulb_machine_shown_picture(&m).bytes, m.border);
  *
  * Nothing here allocates. A struct is one machine; two structs are two machines. One machine is for one thread at a
- * time. Between calls hand the buffers back untouched: RAM is written by ulb_machine_write, ulb_machine_load_page and
- * ulb_machine_load_scr, pictures and border are the bus's alone. */
+ * time. Between calls hand the buffers back untouched: RAM is written by ulb_machine_write, ulb_machine_load_page,
+ * ulb_machine_load_scr and ulb_machine_load_sna, pictures and border are the bus's alone. */
 #ifndef ULB_MACHINE_H
 #define ULB_MACHINE_H
 
@@ -62,6 +62,19 @@ typedef struct {
     bool in_rom;       /* ulb_machine_block only: the part is ROM, so writes to it vanish */
 } ulb_part;
 
+/* The 30 register bytes of a snapshot by name, for a Z80: see ulb_z80_registers_of. */
+typedef struct {
+    uint16_t af, bc, de, hl, ix, iy, sp;
+    uint16_t af2, bc2, de2, hl2; /* AF', BC', DE', HL' */
+    uint16_t pc;                 /* 128K; on 48K 0: PC is on the stack, its low byte at sp, and a RETN takes it from there */
+    uint8_t i, r;
+    uint8_t iff;                 /* header byte 19, all its bits; & ULB_Z80_IFF2 is IFF2 */
+    uint8_t im;                  /* interrupt mode 0..2, in a good file */
+    uint8_t border;              /* header byte 26, all its bits; an export ignores it */
+    uint8_t tr_dos;              /* 128K; on 48K 0 */
+} ulb_z80_registers;
+enum { ULB_Z80_IFF2 = 0x04 };
+
 /* Takes a copy of the ROM and starts, in black (as ulb_start). No key is down, the tape bit is 1, no device is present.
  * Refusals: 1 kind above 1; 2 the ROM is not 16,384 bytes (48K) or 32,768 bytes (128K). Refused: nothing is written. */
 uint8_t ulb_machine_init(ulb_machine *m, uint32_t kind, const uint8_t *rom, size_t rom_len);
@@ -72,6 +85,21 @@ uint8_t ulb_machine_init_colour(ulb_machine *m, uint32_t kind, const uint8_t *ro
  * first start. Refusal, with nothing changed: 8 colour above 7. */
 uint8_t ulb_machine_restart(ulb_machine *m);
 uint8_t ulb_machine_restart_colour(ulb_machine *m, uint32_t colour);
+
+/* Snapshots (SNA; ulb.h draws the file's bytes at ulb_load_sna).
+ * As ulb_machine_init, but it starts from a snapshot of this kind (ulb_load_sna): RAM, paging and border are the file's,
+ * and `registers` gets its 30 bytes. Refusals: 1, 2 as there; 10, 11. Refused: nothing is written, `registers` neither. */
+uint8_t ulb_machine_init_sna(ulb_machine *m, uint32_t kind, const uint8_t *rom, size_t rom_len, const uint8_t *file,
+                             size_t file_len, uint8_t registers[ULB_REGISTER_BYTES]);
+/* Starts again, from a snapshot of the machine's own kind: same ROM, same devices. Refusals, with nothing changed: 10, 11. */
+uint8_t ulb_machine_load_sna(ulb_machine *m, const uint8_t *file, size_t len, uint8_t registers[ULB_REGISTER_BYTES]);
+/* Writes one, in no time (ulb_save_sna). `len` has to be what ulb_machine_sna_bytes says now: at most
+ * ULB_SNA_BYTES_128K_TWICE, and another number once another bank is paged. Refusal: 10, with nothing written. */
+size_t ulb_machine_sna_bytes(const ulb_machine *m);
+uint8_t ulb_machine_save_sna(ulb_machine *m, uint8_t *file, size_t len, const uint8_t registers[ULB_REGISTER_BYTES]);
+/* The 30 bytes by name, and back: no byte is lost either way. */
+ulb_z80_registers ulb_z80_registers_of(const uint8_t bytes[ULB_REGISTER_BYTES]);
+void ulb_z80_registers_to(const ulb_z80_registers *z, uint8_t bytes[ULB_REGISTER_BYTES]);
 
 /* Timed calls: ulb_wait_internal, ulb_wait_mreq, ulb_wait_no_mreq, ulb_read_io, ulb_write_io. */
 ulb_timed ulb_machine_wait(ulb_machine *m, uint32_t clocks);
@@ -87,8 +115,9 @@ ulb_timed ulb_machine_port_timing(const ulb_machine *m, ulb_machine *scratch, ui
 
 /* The byte at an address, in no time and without a call: for a processor, which asks for thousands a frame. It reads where
  * ulb_block said that the address's block starts. That this is the byte which ulb_machine_read would give is proved as long as
- * the 7FFD byte stays (crate contracts, proofs/Map.antt); the calls below that change it ask ulb_block anew: a start, and a
- * port or 7FFD write that answers ULB_PAGED. If you write m->state yourself, do it by ulb_machine_load_state.
+ * the 7FFD byte stays (crate contracts, proofs/Map.antt); the calls here that change it ask ulb_block anew: a start, from a
+ * snapshot or not, and a port or 7FFD write that answers ULB_PAGED. If you write m->state yourself, do it by
+ * ulb_machine_load_state.
  * Of a machine that was never started the byte means nothing. */
 static inline uint8_t ulb_machine_byte(const ulb_machine *m, uint16_t addr) {
     const uint8_t *from_rom = (const uint8_t *)m + offsetof(ulb_machine, rom);
@@ -114,7 +143,7 @@ ulb_number ulb_machine_int_active(ulb_machine *m);
 ulb_number ulb_machine_frames_count(ulb_machine *m);
 uint8_t ulb_machine_reset_frame_counter(ulb_machine *m);
 
-/* A record from a snapshot (23 bytes, as m->state had them) in the place of the machine's own. RAM is yours to load besides.
+/* A record that was kept (23 bytes, as m->state had them) in the place of the machine's own. RAM is yours to load besides.
  * Refusals, with nothing changed: 2 it has another length or is another kind's; 3 it is not sound. */
 uint8_t ulb_machine_load_state(ulb_machine *m, const uint8_t *state, size_t len);
 

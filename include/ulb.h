@@ -5,7 +5,7 @@
  * then zeros, and leaves an answer of the wrong length alone. Slices of one call must not overlap (docs/DUTIES.md).
  *
  * Refusals, in the order in which they are judged:
- *   1  start: machine above 1
+ *   1  a start or the import of a snapshot: machine above 1
  *   2  the state record has the wrong length
  *   3  the state record is not sound
  *   2  another lent slice, or the answer, has the wrong length
@@ -15,6 +15,8 @@
  *   7  a RAM page above 2 (48K) or 7 (128K)
  *   9  a RAM page that is no video page: other than 0 (48K), or than 5 and 7 (128K)
  *   8  a number outside its range; start: a colour above 7
+ *  10  a snapshot's size is not the one due
+ *  11  the two copies of a bank in a snapshot differ
  *
  * A timed call's answer has 10 bytes, little-endian:
  *   0 refusal; 1 value or code (0 for a wait); 2 frame closed 0/1; 3 interrupt after the call 0/1;
@@ -32,11 +34,13 @@
  *      208                     ulb_read_internal
  *      192                     ulb_block
  *      176                     ulb_load_page, ulb_load_scr, ulb_ram_page, ulb_shown_picture
+ *      168                     ulb_load_sna
  *      160                     ulb_write_7ffd, ulb_save_scr
  *      144                     ulb_read_7ffd, ulb_int_active, ulb_frames_count
  *      128                     ulb_reset_frame_counter
  *      120                     ulb_start_colour
  *      104                     ulb_start
+ *       88                     ulb_save_sna
  *       48                     ulb_write_internal
  *        8                     ulb_bitmap_line_addr, ulb_bitmap_line_rel, ulb_bitmap_col_rel, ulb_attr_row_rel,
  *                              ulb_attr_col_rel, ulb_color_from_bits
@@ -57,6 +61,10 @@ enum {
     ULB_DEVICE_BYTES = 35,
     ULB_PAGE_BYTES = 16384,
     ULB_SCREEN_FILE_BYTES = 6912, /* an SCR file: 6,144 bitmap bytes in page order, then 768 attribute bytes */
+    ULB_REGISTER_BYTES = 30,      /* a snapshot's 27 header bytes, PC, the TR-DOS byte */
+    ULB_SNA_BYTES_48K = 49179,    /* an SNA file by its machine */
+    ULB_SNA_BYTES_128K = 131103,
+    ULB_SNA_BYTES_128K_TWICE = 147487, /* bank 5 or 2 is the paged one, and so stands twice */
     ULB_PICTURE_BYTES = 49152, /* 256 x 192, a byte a pixel: colour 0..7, plus 8 if bright */
     ULB_BORDER_BYTES = 76800,  /* 320 x 240, a byte a pixel: colour 0..7 */
     ULB_RAM_BYTES_48K = 49152,
@@ -79,7 +87,9 @@ enum {
     ULB_FRAMES_FULL = 6,
     ULB_BAD_PAGE = 7,
     ULB_BAD_NUMBER = 8,
-    ULB_NO_VIDEO_PAGE = 9
+    ULB_NO_VIDEO_PAGE = 9,
+    ULB_WRONG_SIZE = 10,
+    ULB_UNEQUAL_COPIES = 11
 };
 
 /* Codes of a port write, and 0, PAGED and LOCKED of ulb_write_7ffd. */
@@ -105,6 +115,32 @@ uint8_t ulb_start(uint8_t *state, size_t state_len, uint8_t *ram, size_t ram_len
 uint8_t ulb_start_colour(uint8_t *state, size_t state_len, uint8_t *ram, size_t ram_len, uint8_t *a, size_t a_len,
                          uint8_t *b, size_t b_len, uint8_t *border, size_t border_len, uint32_t machine,
                          uint32_t colour);
+
+/* Start from a snapshot (SNA). Every byte of a file:
+ *
+ *   48K: 49,179 bytes             128K: 131,103 bytes, or 147,487 where bank 5 or 2 is the paged one
+ *        0  header, 27 bytes           0  header, 27 bytes
+ *       26    its last: border        26    its last: border
+ *       27  RAM page 0 (4000h)        27  bank 5 (4000h)
+ *   16,411  RAM page 1 (8000h)    16,411  bank 2 (8000h)
+ *   32,795  RAM page 2 (C000h)    32,795  the paged bank (C000h): bits 0..2 of the 7FFD byte
+ *                                 49,179  PC, low byte first
+ *                                 49,181  the 7FFD byte
+ *                                 49,182  the TR-DOS byte
+ *                                 49,183  the banks of 0..7 that did not stand yet, in rising order: five of them,
+ *                                         or six where the paged one is 5 or 2, which then stands twice
+ *
+ * The import writes the file's banks into RAM and a fresh state record with the file's 7FFD byte, all eight bits and so
+ * its lock (48K: 0); reported border and beam colour are the low three bits of byte 26. It clears pictures and border to
+ * 0, as a start does, and does not judge the record that it writes over.
+ * `registers` gets 30 bytes on either machine, for the Z80: the header as it stands in the file, byte 26 with all its
+ * bits; then PC and the TR-DOS byte, which are 0 on 48K, where PC is on the stack.
+ * Refusals: 1, 2, 10, 11; refused it writes nothing, `registers` neither. A `file` of another size than the one due for
+ * `machine` and, on 128K, for the file's own 7FFD byte is 10 and never 2, one too short to hold that byte too. 11: bank
+ * 5 or 2 stands twice, and its copies are not equal. */
+uint8_t ulb_load_sna(uint8_t *state, size_t state_len, uint8_t *ram, size_t ram_len, const uint8_t *file,
+                     size_t file_len, uint8_t *registers, size_t registers_len, uint8_t *a, size_t a_len, uint8_t *b,
+                     size_t b_len, uint8_t *border, size_t border_len, uint32_t machine);
 
 /* Plain wait: one step of `clocks`. Answer: 10 bytes. Refusals: 2, 3, 2, 5, 6. */
 uint8_t ulb_wait_internal(uint8_t *state, size_t state_len, const uint8_t *ram, size_t ram_len, uint8_t *a,
@@ -165,6 +201,14 @@ uint8_t ulb_save_scr(const uint8_t *state, size_t state_len, const uint8_t *ram,
                      size_t file_len);
 uint8_t ulb_load_scr(const uint8_t *state, size_t state_len, uint8_t *ram, size_t ram_len, const uint8_t *file,
                      size_t file_len, uint32_t page);
+
+/* Writes a snapshot (SNA; its bytes are drawn at ulb_load_sna) into `file`, whose size has to be the one due for the
+ * record's machine and 7FFD byte. From `registers`, 30 bytes as an import gives them, come the header but for its byte 26,
+ * where the reported border goes, and on 128K PC and the TR-DOS byte; on 48K their last three are ignored. It takes no time,
+ * and the machine stays as it is. What it wrote gives the same RAM, paging and border when it is imported.
+ * Refusals: 2, 3, 2, 10. */
+uint8_t ulb_save_sna(const uint8_t *state, size_t state_len, const uint8_t *ram, size_t ram_len, uint8_t *file,
+                     size_t file_len, const uint8_t *registers, size_t registers_len);
 
 /* Where a RAM page starts, and where the 16 KiB at a block 0..3 starts: counted through ROM and then RAM, so a number
  * below the ROM's length is in ROM, and else RAM at that number less the ROM's length.

@@ -27,7 +27,10 @@ static bool chance(unsigned in_hundred) { return below(100) < in_hundred; }
 /* ---- What is going on, for a report -------------------------------------------------------------------------------- */
 
 static struct { unsigned long number; uint64_t seed; call c; uint8_t state[23]; unsigned wanted; } now;
-static unsigned long accepted[KINDS], refused[10], painted_from_file;
+static unsigned long accepted[KINDS], refused[REFUSALS], painted_from_file;
+static unsigned long imported[9], exported[9]; /* by the bank that was paged; the last of a 48K */
+
+static world w; /* the reading's own memory */
 
 static void describe(void) {
     const call_shape *shape = &shapes[now.c.kind];
@@ -38,6 +41,7 @@ static void describe(void) {
     printf("\n  lengths");
     for (int s = 0; s < SLICES; s++)
         if (shape->lent >> s & 1) printf(" %s %zu", slice_names[s], now.c.length[s]);
+    if (shape->lent >> SNA & 1) printf("; the snapshot's 7FFD byte %02Xh", w.sna[SNA_PAGING_AT]);
     printf("\n");
 }
 
@@ -64,6 +68,7 @@ static void make_zones(void) {
     for (slice s = STATE; s < SLICES; s++) {
         home[0][s] = make_zone(right_length(s, 0, 10));
         home[1][s] = s == ROM || s == RAM ? make_zone(right_length(s, 1, 10)) : home[0][s];
+        if (s == SNA) home[0][s] = home[1][s] = make_zone(LONGEST);
         spare[s] = make_zone(LONGEST);
         memset(spare[s].rw, 0xA5, LONGEST);
     }
@@ -76,19 +81,18 @@ static uint8_t *own(slice s, unsigned machine, size_t length) {
     return home[machine][s].rw + offset(&home[machine][s], s, length);
 }
 
-/* The pointer that a call gets. */
+/* The pointer that a call gets. Of a snapshot the bytes count whatever its size. */
 static uint8_t *lent(const call *c, slice s, unsigned machine, bool writable) {
     const zone *z = &home[machine][s];
-    if (c->length[s] != right_length(s, machine, shapes[c->kind].answer)) {
+    if (s != SNA && c->length[s] != right_length(s, machine, shapes[c->kind].answer)) {
         z = &spare[s];
         writable = false;
     }
     return (writable ? z->rw : z->ro) + offset(z, s, c->length[s]);
 }
 
-/* ---- A session: one of the two starts, and what follows ---------------------------------------------------------- */
+/* ---- A session: a start or an import, and what follows -------------------------------------------------------------- */
 
-static world w;                 /* the reading's own memory */
 static uint8_t state[23], devices[35];
 static unsigned machine;        /* whose zones are in use */
 static bool history;            /* no record but the bus's own is accepted, so demand 3's sums must hold */
@@ -97,9 +101,9 @@ static bool file_read;          /* the last accepted call read a screen file */
 static bool in_mid_frame;       /* and that into the shown page, of which some blocks were painted and some were not */
 
 static void scatter(uint8_t *p, size_t n) {
-    for (size_t i = 0; i + 4 <= n; i += 4) {
+    for (size_t i = 0; i < n; i += 4) {
         uint32_t r = roll();
-        memcpy(p + i, &r, 4);
+        memcpy(p + i, &r, n - i < 4 ? n - i : 4);
     }
 }
 
@@ -140,14 +144,36 @@ static void refill(slice s, uint8_t *bytes) {
     memcpy(own(s, machine, n), bytes, n);
 }
 
+/* A snapshot of any bytes, whichever bank is paged, 5 and 2 more often than others; of these two the copies are equal, or
+ * they differ in one byte: the first, the last or any, of either copy. */
+static void draw_snapshot(bool equal) {
+    enum { BANK_5 = 27, BANK_2 = BANK_5 + 16384, PAGED = BANK_2 + 16384 };
+    uint8_t *file = w.sna;
+    scatter(file, sizeof w.sna);
+    if (chance(35)) file[SNA_PAGING_AT] = (uint8_t)((file[SNA_PAGING_AT] & 0xF8) | (chance(50) ? 5 : 2));
+    unsigned paged = file[SNA_PAGING_AT] & 7, first = paged == 5 ? BANK_5 : BANK_2;
+    if (machine == 0 || (paged != 5 && paged != 2)) return;
+    memcpy(file + PAGED, file + first, 16384);
+    if (equal || chance(50)) return;
+    unsigned copy = chance(50) ? PAGED : first, at = chance(40) ? 16383 : chance(30) ? 0 : below(16384);
+    file[copy + at] ^= (uint8_t)(1u << below(8));
+}
+
+static void count_snapshot(const call *c) {
+    unsigned bank = machine == 0 ? 8 : w.sna[SNA_PAGING_AT] & 7;
+    if (c->kind == LOAD_SNA) imported[bank]++;
+    if (c->kind == SAVE_SNA) exported[bank]++;
+}
+
 static void new_session(void) {
+    static const call_kind starts[3] = {START, START_COLOUR, LOAD_SNA};
     machine = below(2);
     history = chance(50);
     memset(&sum, 0, sizeof sum);
     at_end[BORDER] = chance(50);
     at_end[SCR] = chance(50);
     file_read = in_mid_frame = false;
-    call c = {chance(50) ? START : START_COLOUR, {0}, 0, 0, 0, 0};
+    call c = {starts[below(3)], {0}, 0, 0, 0, 0};
     uint8_t none[10], *p[SLICES];
     c.number = machine;
     if (c.kind == START_COLOUR) c.colour = below(8);
@@ -155,19 +181,24 @@ static void new_session(void) {
     refill(BYTES, w.bytes);
     refill(SCR, w.file);
     refill(PICTURE, w.still);
+    if (c.kind == LOAD_SNA) draw_snapshot(true);
     carry_out(&c, state, devices, &w, none);
     for (slice s = STATE; s < SLICES; s++) {
-        c.length[s] = shapes[c.kind].lent >> s & 1 ? right_length(s, machine, 0) : 0;
+        size_t right = s == SNA ? sna_size(machine, w.sna[SNA_PAGING_AT]) : right_length(s, machine, 0);
+        c.length[s] = shapes[c.kind].lent >> s & 1 ? right : 0;
         p[s] = own(s, machine, c.length[s]);
         memset(p[s], 0x77, c.length[s]); /* the record too: a start does not judge it */
     }
+    memcpy(p[SNA], w.sna, c.length[SNA]);
     now.wanted = 0;
     now.c = c;
     uint8_t got = make_call(&c, p);
     if (got != 0) differs("start", got, 0);
     compare("record after a start", p[STATE], state, 23);
+    compare("registers of a snapshot", p[REGISTERS], w.registers, c.length[REGISTERS]);
     compare_memory();
-    if (chance(80)) refill(RAM, w.ram); /* bytes that show */
+    count_snapshot(&c);
+    if (c.kind != LOAD_SNA && chance(80)) refill(RAM, w.ram); /* bytes that show, as a snapshot's do */
 }
 
 /* ---- Random calls ---------------------------------------------------------------------------------------------------- */
@@ -241,6 +272,7 @@ static uint16_t random_port(void) {
 
 static uint32_t random_number(call_kind k) {
     switch (k) {
+        case LOAD_SNA: return chance(80) ? machine : chance(30) ? 1 - machine : chance(50) ? 2 + below(3) : roll();
         case START:
         case START_COLOUR: return chance(30) ? machine : chance(30) ? 1 - machine : chance(50) ? 2 + below(3) : roll();
         case WAIT_INTERNAL:
@@ -278,9 +310,37 @@ static size_t wrong_length(size_t right) {
     }
 }
 
+/* The size of a snapshot: the one due more often than not; else a byte less or more, the others that there are, or just so
+ * many bytes that the 7FFD byte is not in it or is its last. */
+static size_t random_size(size_t due) {
+    static const size_t others[] = {49179, 131103, 147487, SNA_PAGING_AT, SNA_PAGING_AT + 1, 0};
+    if (chance(65)) return due;
+    switch (below(4)) {
+        case 0: return due - 1;
+        case 1: return due + 1;
+        case 2: return others[below(sizeof others / sizeof *others)];
+        default: return below(LONGEST + 1);
+    }
+}
+
+/* The snapshot and the registers that this call is lent, if it is: to an import a new one, or what the last export wrote or the
+ * last import read; to an export any registers, or those of the last import. */
+static void lend_snapshot(call *c, const uint8_t record_bytes[23]) {
+    if (!(shapes[c->kind].lent >> SNA & 1)) return;
+    if (c->kind == LOAD_SNA && chance(75)) draw_snapshot(false);
+    if (c->kind == SAVE_SNA && chance(75)) scatter(w.registers, sizeof w.registers);
+    size_t size = random_size(sna_size(machine, c->kind == LOAD_SNA ? w.sna[SNA_PAGING_AT] : record_bytes[17]));
+    c->length[SNA] = size;
+    memcpy(own(SNA, machine, size), w.sna, size < sizeof w.sna ? size : sizeof w.sna);
+    memcpy(own(REGISTERS, machine, sizeof w.registers), w.registers, sizeof w.registers);
+}
+
 static call random_call(void) {
     call c;
-    c.kind = chance(65) ? WAIT_INTERNAL + below(5) : chance(10) ? SAVE_SCR + below(2) : below(KINDS);
+    unsigned imports = machine == 0 ? 4 : 14; /* a 128K's snapshots have more cases */
+    c.kind = chance(65) ? WAIT_INTERNAL + below(5) : chance(15) ? SAVE_SCR + below(3)
+             : chance(imports) ? LOAD_SNA : below(KINDS);
+    if (c.kind == LOAD_SNA && history && chance(70)) c.kind = WAIT_INTERNAL + below(5); /* a history is to be long */
     if ((c.kind == LOAD_PAGE || c.kind == STILL_PICTURE) && chance(70)) c.kind = WRITE_INTERNAL;
     c.number = random_number(c.kind);
     if (file_read && chance(70)) { /* a wait that paints from what was read */
@@ -295,7 +355,7 @@ static call random_call(void) {
         c.length[s] = shapes[c.kind].lent >> s & 1 ? right : 0;
     }
     if (c.length[SCR] > 0 && chance(15)) c.length[SCR] = chance(50) ? 6911 : 6913;
-    for (int wrongs = chance(25) ? 1 + (int)below(3) : 0; wrongs > 0; wrongs--) {
+    for (int wrongs = chance(30) ? 1 + (int)below(3) : 0; wrongs > 0; wrongs--) {
         slice s = below(SLICES);
         if (shapes[c.kind].lent >> s & 1) c.length[s] = wrong_length(c.length[s]);
     }
@@ -357,11 +417,12 @@ static void one_call(void) {
         if (s != BORDER && s != SCR) at_end[s] = chance(50); /* the bytes of these two stay from call to call */
     memcpy(own(STATE, machine, 23), bytes, 23);
     memcpy(own(DEVICES, machine, 35), devices, 35);
+    lend_snapshot(&c, bytes);
     if (c.kind == LOAD_SCR && chance(70)) refill(SCR, w.file); /* else what the last save wrote */
 
     now.c = c;
     memcpy(now.state, bytes, 23);
-    unsigned refusal = now.wanted = refusal_of(&c, bytes, devices);
+    unsigned refusal = now.wanted = refusal_of(&c, bytes, devices, w.sna);
     unsigned size = shapes[c.kind].answer;
     uint8_t *answer = own(ANSWER, machine, size);
     memset(answer, 0xAA, size);
@@ -383,11 +444,21 @@ static void one_call(void) {
         compare("the record", own(STATE, machine, 23), bytes, 23);
         memcpy(state, bytes, 23);
     }
+    if (shapes[c.kind].lent >> SNA & 1) {
+        compare("the snapshot", own(SNA, machine, c.length[SNA]), w.sna, c.length[SNA]);
+        compare("the registers", own(REGISTERS, machine, sizeof w.registers), w.registers, sizeof w.registers);
+        count_snapshot(&c);
+    }
     count_up(&c, answer);
     if (is_start(c.kind)) memset(&sum, 0, sizeof sum);
     bool copies = c.kind == LOAD_PAGE || c.kind == SAVE_SCR || c.kind == LOAD_SCR;
     if (is_start(c.kind) || copies || c.kind == STILL_PICTURE || file_read) compare_memory();
     watch_files(&c, answer);
+}
+
+static void print_banks(const char *what, const unsigned long count[9]) {
+    printf("snapshots %s: 48K %lu; 128K by the paged bank", what, count[8]);
+    for (int i = 0; i < 8; i++) printf(" %d: %lu%s", i, count[i], i < 7 ? "," : "\n");
 }
 
 /* A run that never met a case would prove little: of 20,000 calls or more each must have been met. */
@@ -399,12 +470,16 @@ static int report(unsigned long calls) {
         if (accepted[k] == 0 && calls >= 20000) missing = printf("fuzz: %s was never accepted\n", shapes[k].name);
     }
     printf("accepted %lu; refused", good);
-    for (int i = 1; i < 10; i++) {
-        printf(" %d: %lu%s", i, refused[i], i < 9 ? "," : "\n");
+    for (int i = 1; i < REFUSALS; i++) {
+        printf(" %d: %lu%s", i, refused[i], i < REFUSALS - 1 ? "," : "\n");
         if (refused[i] == 0 && calls >= 20000) missing = printf("fuzz: refusal %d was never met\n", i);
     }
     printf("painted from a screen file that was read in mid-frame: %lu\n", painted_from_file);
     if (painted_from_file == 0 && calls >= 20000) missing = printf("fuzz: no file was read in mid-frame and shown\n");
+    print_banks("imported", imported);
+    print_banks("exported", exported);
+    if ((imported[5] + imported[2] == 0 || exported[5] + exported[2] == 0) && calls >= 20000)
+        missing = printf("fuzz: no snapshot with bank 5 or 2 twice was imported, or none was exported\n");
     printf("fuzz: %lu calls, 0 differences\n", calls);
     return missing != 0;
 }

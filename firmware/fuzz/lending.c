@@ -9,8 +9,8 @@
 #include <unistd.h>
 #include "ulb.h"
 
-const char *const slice_names[SLICES] = {"state", "devices", "rom", "ram", "bytes", "file", "picture", "a", "b",
-                                         "border", "answer"};
+const char *const slice_names[SLICES] = {"state", "devices", "rom", "ram", "bytes", "file", "snapshot", "registers",
+                                         "picture", "a", "b", "border", "answer"};
 
 static uint8_t *map_between(int file, size_t size, int rights) {
     uint8_t *room = mmap(NULL, size + 2 * GUARD, PROT_NONE, MAP_PRIVATE | MAP_ANONYMOUS, -1, 0);
@@ -61,6 +61,8 @@ uint8_t make_call(const call *c, uint8_t *p[SLICES]) {
     switch (c->kind) {
         case START: return ulb_start(S(STATE), LENT, c->number);
         case START_COLOUR: return ulb_start_colour(S(STATE), LENT, c->number, c->colour);
+        case LOAD_SNA:
+            return ulb_load_sna(S(STATE), S(RAM), S(SNA), S(REGISTERS), S(A), S(B), S(BORDER), c->number);
         case WAIT_INTERNAL: return ulb_wait_internal(S(STATE), LENT, c->number, S(ANSWER));
         case WAIT_MREQ: return ulb_wait_mreq(S(STATE), LENT, c->addr, c->number, S(ANSWER));
         case WAIT_NO_MREQ: return ulb_wait_no_mreq(S(STATE), LENT, c->addr, c->number, S(ANSWER));
@@ -76,6 +78,7 @@ uint8_t make_call(const call *c, uint8_t *p[SLICES]) {
         case LOAD_PAGE: return ulb_load_page(S(STATE), S(RAM), S(BYTES), c->number);
         case SAVE_SCR: return ulb_save_scr(S(STATE), S(RAM), S(SCR));
         case LOAD_SCR: return ulb_load_scr(S(STATE), S(RAM), S(SCR), c->number);
+        case SAVE_SNA: return ulb_save_sna(S(STATE), S(RAM), S(SNA), S(REGISTERS));
         case RAM_PAGE: return ulb_ram_page(S(STATE), S(RAM), c->number, S(ANSWER));
         case BLOCK: return ulb_block(S(STATE), S(ROM), S(RAM), c->number, S(ANSWER));
         case SHOWN_PICTURE: return ulb_shown_picture(S(STATE), S(A), S(B), S(ANSWER));

@@ -1,4 +1,4 @@
-/* lending.h: slices between pages that nobody may touch, and the 27 calls of ulb.h by the slices that they are lent.
+/* lending.h: slices between pages that nobody may touch, and the 29 calls of ulb.h by the slices that they are lent.
  * What the tests and the fuzz program share. A sanitizer watches only the C that it compiled; these pages watch the
  * archive. */
 #ifndef LENDING_H

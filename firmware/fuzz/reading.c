@@ -9,6 +9,8 @@
 const call_shape shapes[KINDS] = {
     {"ulb_start", BIT(STATE) | BIT(RAM) | PAINTED, BIT(STATE) | BIT(RAM) | PAINTED, 0},
     {"ulb_start_colour", BIT(STATE) | BIT(RAM) | PAINTED, BIT(STATE) | BIT(RAM) | PAINTED, 0},
+    {"ulb_load_sna", BIT(STATE) | BIT(RAM) | BIT(SNA) | BIT(REGISTERS) | PAINTED,
+     BIT(STATE) | BIT(RAM) | BIT(REGISTERS) | PAINTED, 0},
     {"ulb_wait_internal", TIMED, BIT(STATE) | PAINTED | BIT(ANSWER), 10},
     {"ulb_wait_mreq", TIMED, BIT(STATE) | PAINTED | BIT(ANSWER), 10},
     {"ulb_wait_no_mreq", TIMED, BIT(STATE) | PAINTED | BIT(ANSWER), 10},
@@ -24,6 +26,7 @@ const call_shape shapes[KINDS] = {
     {"ulb_load_page", BIT(STATE) | BIT(RAM) | BIT(BYTES), BIT(RAM), 0},
     {"ulb_save_scr", BIT(STATE) | BIT(RAM) | BIT(SCR), BIT(SCR), 0},
     {"ulb_load_scr", BIT(STATE) | BIT(RAM) | BIT(SCR), BIT(RAM), 0},
+    {"ulb_save_sna", BIT(STATE) | BIT(RAM) | BIT(SNA) | BIT(REGISTERS), BIT(SNA), 0},
     {"ulb_ram_page", BIT(STATE) | BIT(RAM) | BIT(ANSWER), BIT(ANSWER), 5},
     {"ulb_block", BIT(STATE) | BIT(ROM) | BIT(RAM) | BIT(ANSWER), BIT(ANSWER), 5},
     {"ulb_shown_picture", BIT(STATE) | BIT(A) | BIT(B) | BIT(ANSWER), BIT(ANSWER), 5},
@@ -141,15 +144,66 @@ size_t right_length(slice s, unsigned machine, unsigned answer) {
         case RAM: return machines[machine].ram;
         case BYTES: return 16384;
         case SCR: return 6912;
+        case SNA: return sna_size(machine, 5);
+        case REGISTERS: return 30;
         case BORDER: return 76800;
         case ANSWER: return answer;
         default: return 49152;
     }
 }
 
-/* ---- "Eight refusals": "Order: 1, record length, 3, other lengths, 4, 5, 6, 7, 8."; 9 "after 7" (02, Q-2) -------- */
+/* ---- The files of snapshots: 02, Q-4 -------------------------------------------------------------------------------- */
 
-bool is_start(call_kind k) { return k == START || k == START_COLOUR; }
+/* "131,103 bytes, or 147,487 when bank 5 or 2 is the paged one and so stands twice" */
+static bool stands_twice(unsigned paging) { return (paging & 7) == 5 || (paging & 7) == 2; }
+
+/* "the 48K form of 49,179 bytes", and the 128K form */
+size_t sna_size(unsigned machine, unsigned paging) {
+    if (machine == 0) return 49179;
+    return stands_twice(paging) ? 147487 : 131103;
+}
+
+/* "27 header bytes, border colour in byte 26, then RAM from 4000h .. and the 128K form: the same, with banks 5, 2 and the
+ * paged one, then PC, the 7FFD byte, a TR-DOS byte and the remaining banks": where the file's banks begin, counted from
+ * 0, and the bytes between the third and the fourth. */
+enum { HEADER = 27, BORDER_AT = 26, PC_AT = 49179, TR_DOS_AT = 49182 };
+static size_t bank_at(unsigned i) { return HEADER + 16384 * i + (i < 3 ? 0 : 4); }
+
+/* "RAM from 4000h"; "banks 5, 2 and the paged one, .. and the remaining banks in rising order": which they are, and how
+ * many. */
+static unsigned banks_of(unsigned machine, unsigned paging, unsigned bank[9]) {
+    unsigned n = 3;
+    bank[0] = machine == 0 ? 0 : 5;
+    bank[1] = machine == 0 ? 1 : 2;
+    bank[2] = machine == 0 ? 2 : paging & 7;
+    for (unsigned k = 0; machine == 1 && k < 8; k++)
+        if (k != bank[0] && k != bank[1] && k != bank[2]) bank[n++] = k;
+    return n;
+}
+
+/* "10 when the size is not the one due for the machine and, on 128K, for the file's 7FFD byte, or the record's when
+ * writing (a file too short to hold that byte included)" */
+static bool wrong_size(const call *c, const record *r, const uint8_t *sna) {
+    size_t size = c->length[SNA];
+    unsigned paging = r->paging;
+    if (c->kind == LOAD_SNA && r->machine == 1) {
+        if (size <= SNA_PAGING_AT) return true;
+        paging = sna[SNA_PAGING_AT];
+    }
+    return size != sna_size(r->machine, paging);
+}
+
+/* "Where the two copies differ the file is refused." */
+static bool copies_differ(const uint8_t *sna) {
+    unsigned paging = sna[SNA_PAGING_AT];
+    const uint8_t *first = sna + bank_at((paging & 7) == 5 ? 0 : 1), *second = sna + bank_at(2);
+    return stands_twice(paging) && memcmp(first, second, 16384) != 0;
+}
+
+/* ---- "Eight refusals": "Order: 1, record length, 3, other lengths, 4, 5, 6, 7, 8."; 9 "after 7" (02, Q-2); 10, "then 11
+ * for unequal copies, both after 2" (02, Q-4) ----------------------------------------------------------------------- */
+
+bool is_start(call_kind k) { return k == START || k == START_COLOUR || k == LOAD_SNA; }
 static bool is_wait(call_kind k) { return k == WAIT_INTERNAL || k == WAIT_MREQ || k == WAIT_NO_MREQ; }
 static bool is_port(call_kind k) { return k == READ_IO || k == WRITE_IO; }
 static bool names_page(call_kind k) { return k == LOAD_PAGE || k == LOAD_SCR || k == RAM_PAGE; }
@@ -180,7 +234,7 @@ static bool out_of_range(const call *c) {
 /* "a named video page (0 on 48K; 5 or 7 on 128K)" (02, Q-2) */
 static bool is_video_page(unsigned machine, uint32_t page) { return machine == 0 ? page == 0 : page == 5 || page == 7; }
 
-unsigned refusal_of(const call *c, const uint8_t *state, const uint8_t *devices) {
+unsigned refusal_of(const call *c, const uint8_t *state, const uint8_t *devices, const uint8_t *sna) {
     const call_shape *shape = &shapes[c->kind];
     record r = {0, 0, 0, 0, 0, 0, 0, 0, 0, 0};
     if (is_start(c->kind)) {
@@ -192,13 +246,15 @@ unsigned refusal_of(const call *c, const uint8_t *state, const uint8_t *devices)
         if (!is_start(c->kind) && !sound(state, &r)) return 3;
     }
     for (slice s = STATE; s < SLICES; s++)
-        if (shape->lent & BIT(s) && c->length[s] != right_length(s, r.machine, shape->answer)) return 2;
+        if (shape->lent & BIT(s) && s != SNA && c->length[s] != right_length(s, r.machine, shape->answer)) return 2;
     if (is_port(c->kind) && !flags_hold(devices)) return 4;
     if (is_wait(c->kind) && c->number > 65535) return 5;
     if ((is_wait(c->kind) || is_port(c->kind)) && r.passed == 4294967295u) return 6;
     if (names_page(c->kind) && c->number > (r.machine == 0 ? 2u : 7u)) return 7;
     if (c->kind == LOAD_SCR && !is_video_page(r.machine, c->number)) return 9;
-    return out_of_range(c) ? 8 : 0;
+    if (out_of_range(c)) return 8;
+    if (shape->lent & BIT(SNA) && wrong_size(c, &r, sna)) return 10;
+    return c->kind == LOAD_SNA && r.machine == 1 && copies_differ(sna) ? 11 : 0;
 }
 
 /* ---- "Start, time and paint" ----------------------------------------------------------------------------------------- */
@@ -428,11 +484,46 @@ static void start(bus *b, unsigned machine, unsigned colour) {
     memset(b->w->border, 0, sizeof b->w->border);
 }
 
+/* "The import writes RAM and a fresh record with border, paging and lock, clears pictures and border as a start does, and
+ * hands back the header for the Z80 and, for 128K, PC and the TR-DOS byte. Border and beam colour both take the low three
+ * bits of byte 26." (02, Q-4) The header is handed back as it stands; on 48K the bytes behind it are 0, and so is the 7FFD
+ * byte. */
+static void load_sna(bus *b, unsigned machine) {
+    const uint8_t *file = b->w->sna;
+    uint8_t *registers = b->w->registers;
+    unsigned paging = machine == 0 ? 0 : file[SNA_PAGING_AT], bank[9], n = banks_of(machine, paging, bank);
+    start(b, machine, file[BORDER_AT] & 7);
+    b->r.reported = file[BORDER_AT] & 7;
+    b->r.paging = paging;
+    for (unsigned i = 0; i < n; i++) memcpy(b->w->ram + 16384 * bank[i], file + bank_at(i), 16384);
+    memcpy(registers, file, HEADER);
+    registers[27] = machine == 0 ? 0 : file[PC_AT];
+    registers[28] = machine == 0 ? 0 : file[PC_AT + 1];
+    registers[29] = machine == 0 ? 0 : file[TR_DOS_AT];
+}
+
+/* "The writer is wanted too, from a lent header, PC and TR-DOS byte, with the reported border in byte 26" (02, Q-4); the
+ * 7FFD byte is the record's. */
+static void save_sna(const bus *b) {
+    uint8_t *file = b->w->sna;
+    const uint8_t *registers = b->w->registers;
+    unsigned bank[9], n = banks_of(b->r.machine, b->r.paging, bank);
+    memcpy(file, registers, HEADER);
+    file[BORDER_AT] = (uint8_t)b->r.reported;
+    for (unsigned i = 0; i < n; i++) memcpy(file + bank_at(i), b->w->ram + 16384 * bank[i], 16384);
+    if (b->r.machine == 0) return;
+    file[PC_AT] = registers[27];
+    file[PC_AT + 1] = registers[28];
+    file[SNA_PAGING_AT] = (uint8_t)b->r.paging;
+    file[TR_DOS_AT] = registers[29];
+}
+
 void carry_out(const call *c, uint8_t state[23], const uint8_t devices[35], world *w, uint8_t answer[10]) {
     bus b = {&machines[0], {0, 0, 0, 0, 0, 0, 0, 0, 0, 0}, w, 0, 0, false};
     bool has_state = shapes[c->kind].lent & BIT(STATE);
     if (c->kind == START) start(&b, c->number, 0);
     else if (c->kind == START_COLOUR) start(&b, c->number, c->colour);
+    else if (c->kind == LOAD_SNA) load_sna(&b, c->number);
     else if (has_state) sound(state, &b.r);
     b.n = &machines[b.r.machine];
     if (shapes[c->kind].answer == 10) {
@@ -456,6 +547,8 @@ void carry_out(const call *c, uint8_t state[23], const uint8_t devices[35], worl
         for (unsigned i = 0; i < 6912; i++) w->file[i] = *screen_byte(&b, shown_page(&b.r), i);
     } else if (c->kind == LOAD_SCR) { /* "into a named video page", and the rest of RAM stays */
         for (unsigned i = 0; i < 6912; i++) *screen_byte(&b, c->number, i) = w->file[i];
+    } else if (c->kind == SAVE_SNA) {
+        save_sna(&b);
     } else if (c->kind == STILL_PICTURE) { /* request Q-1: "the page now shown, by bit 3 of the 7FFD byte" */
         for (unsigned k = 0; k < 6144; k++) paint_block(w->still, w->ram + 16384 * shown_page(&b.r), k, c->number == 1);
     }

@@ -11,14 +11,16 @@
 
 /* The calls of ulb.h, in its order. */
 typedef enum {
-    START, START_COLOUR, WAIT_INTERNAL, WAIT_MREQ, WAIT_NO_MREQ, READ_IO, WRITE_IO, READ_INTERNAL, WRITE_INTERNAL,
-    WRITE_7FFD, READ_7FFD, INT_ACTIVE, FRAMES_COUNT, RESET_FRAME_COUNTER, LOAD_PAGE, SAVE_SCR, LOAD_SCR, RAM_PAGE,
-    BLOCK, SHOWN_PICTURE, STILL_PICTURE, BITMAP_LINE_ADDR, BITMAP_LINE_REL, BITMAP_COL_REL, ATTR_ROW_REL, ATTR_COL_REL,
-    COLOR_FROM_BITS, KINDS
+    START, START_COLOUR, LOAD_SNA, WAIT_INTERNAL, WAIT_MREQ, WAIT_NO_MREQ, READ_IO, WRITE_IO, READ_INTERNAL,
+    WRITE_INTERNAL, WRITE_7FFD, READ_7FFD, INT_ACTIVE, FRAMES_COUNT, RESET_FRAME_COUNTER, LOAD_PAGE, SAVE_SCR, LOAD_SCR,
+    SAVE_SNA, RAM_PAGE, BLOCK, SHOWN_PICTURE, STILL_PICTURE, BITMAP_LINE_ADDR, BITMAP_LINE_REL, BITMAP_COL_REL,
+    ATTR_ROW_REL, ATTR_COL_REL, COLOR_FROM_BITS, KINDS
 } call_kind;
 
 /* The slices that a call can be lent, in ulb.h's order. */
-typedef enum { STATE, DEVICES, ROM, RAM, BYTES, SCR, PICTURE, A, B, BORDER, ANSWER, SLICES } slice;
+typedef enum { STATE, DEVICES, ROM, RAM, BYTES, SCR, SNA, REGISTERS, PICTURE, A, B, BORDER, ANSWER, SLICES } slice;
+
+enum { REFUSALS = 12 }; /* 0, which is none, and 1 to 11 */
 
 typedef struct {
     const char *name;
@@ -50,7 +52,7 @@ typedef struct {
     unsigned phase, painted, paging, reported, colour, blocked, pairs;
 } record;
 
-/* Either start: it makes a record, and judges none. */
+/* Either start, or a start from a snapshot: it makes a record, and judges none. */
 bool is_start(call_kind k);
 
 bool sound(const uint8_t bytes[23], record *r);
@@ -63,14 +65,20 @@ unsigned shown_page(const record *r);
 /* The lent memory, in the sizes of the larger machine. */
 typedef struct {
     uint8_t rom[32768], ram[131072], bytes[16384], file[6912], still[49152], picture[2][49152], border[76800];
+    uint8_t sna[147487], registers[30];
 } world;
 
-/* The length that a slice must have, for a machine. */
+/* The length that a slice must have, for a machine. A snapshot has its size instead, which is no matter of lengths: of it
+ * this is the largest that can be due. */
 size_t right_length(slice s, unsigned machine, unsigned answer);
 
+/* The size that is due of a snapshot, for a machine and a 7FFD byte; and where that byte stands in one. */
+size_t sna_size(unsigned machine, unsigned paging);
+enum { SNA_PAGING_AT = 49181 };
+
 /* The first refusal, in the stated order, whose condition holds; 0 if none does. `state` is read only if its length is
- * right, `devices` likewise. */
-unsigned refusal_of(const call *c, const uint8_t *state, const uint8_t *devices);
+ * right, `devices` likewise. `sna` is the snapshot that is imported, in a room of the largest size. */
+unsigned refusal_of(const call *c, const uint8_t *state, const uint8_t *devices, const uint8_t *sna);
 
 /* An accepted call: changes `state` and `w`, and fills the first 0, 5 or 10 bytes of `answer`. */
 void carry_out(const call *c, uint8_t state[23], const uint8_t devices[35], world *w, uint8_t answer[10]);

@@ -1,5 +1,6 @@
 /* Calls every function of ulb.h from C and holds what it gives where it is accepted to fixed answers: answers, record, memory,
- * pictures, where parts start, and the cases that document 01 marks to be run. (Refusals: refusals.c.) Every buffer ends at a
+ * pictures, where parts start, and the cases that document 01 marks to be run. (Refusals: refusals.c; all about snapshots:
+ * snapshots.c.) Every buffer ends at a
  * guard page, so that the archive cannot read or write past it unseen; a sanitizer would watch the C of this file alone.
  * Prints one line a failure and a last line `calls: N checks, M failed`; exit status 1 if any failed. */
 #include <stdio.h>
@@ -499,6 +500,64 @@ static void mid_frames(void) {
                               moments[i].blocks);
 }
 
+/* Request Q-4: a start from a snapshot, and a snapshot written. The 16 KiB of each bank are one byte, its number plus 10h. */
+static void fill_banks(uint8_t *bytes, const uint8_t *banks, unsigned n) {
+    for (unsigned i = 0; i < n; i++) memset(bytes + i * ULB_PAGE_BYTES, 0x10 + banks[i], ULB_PAGE_BYTES);
+}
+
+/* The snapshot in `file`, with border 5, is imported over whatever stood there; all that it leaves, and the file back. */
+static void one_snapshot(unsigned kind, uint8_t *file, size_t size, uint8_t paging) {
+    const uint8_t fresh[ULB_STATE_BYTES] = {'U', 'L', 'B', 1, 0, (uint8_t)kind, 0, 0, 0, 0, 0, 0, 0, 0, 0, 0, 0, paging, 5, 5};
+    machine m = make(kind);
+    uint8_t *registers = room(ULB_REGISTER_BYTES, 0xAA), *written = room(size, 0xAA), last[3] = {0, 0, 0};
+    for (uint8_t i = 0; i < 26; i++) file[i] = (uint8_t)(i + 1);
+    file[26] = 0xFD; /* bits 3 to 7 are handed back, and are no colour */
+    if (kind == ULB_128K) {
+        last[0] = file[49179] = 0x34; /* PC 1234h */
+        last[1] = file[49180] = 0x12;
+        file[49181] = paging;
+        last[2] = file[49182] = 0x99; /* TR-DOS */
+    }
+    CHECK("import", ulb_load_sna(OWN(&m), m.ram, m.ram_len, file, size, registers, ULB_REGISTER_BYTES, m.a, ULB_PICTURE_BYTES,
+                                 m.b, ULB_PICTURE_BYTES, m.border, ULB_BORDER_BYTES, kind), 0);
+    for (int i = 0; i < ULB_STATE_BYTES; i++) CHECK("fresh record", m.state[i], fresh[i]);
+    for (unsigned p = 0; p < m.ram_len / ULB_PAGE_BYTES; p++)
+        CHECK("a bank in its place", all_are(m.ram + p * ULB_PAGE_BYTES, ULB_PAGE_BYTES, (uint8_t)(0x10 + p)), 1);
+    CHECK("picture A is 0", all_are(m.a, ULB_PICTURE_BYTES, 0), 1);
+    CHECK("picture B is 0", all_are(m.b, ULB_PICTURE_BYTES, 0), 1);
+    CHECK("border is 0", all_are(m.border, ULB_BORDER_BYTES, 0), 1);
+    CHECK("the header is handed back", memcmp(registers, file, 27), 0);
+    CHECK("and PC and TR-DOS", memcmp(registers + 27, last, 3), 0);
+    CHECK("7FFD byte", (ulb_read_7ffd(OWN(&m), FIVE(&m)), number(&m)), paging);
+
+    CHECK("export", ulb_save_sna(OWN(&m), m.ram, m.ram_len, written, size, registers, ULB_REGISTER_BYTES), 0);
+    file[26] = 5;
+    CHECK("gives the file back, with the border as a colour", memcmp(written, file, size), 0);
+    CHECK("and changes no record", memcmp(m.state, fresh, sizeof fresh), 0);
+
+    CHECK("border write", out(&m, 0x00FE, 6), 0);
+    CHECK("export in mid-frame", ulb_save_sna(OWN(&m), m.ram, m.ram_len, written, size, registers, ULB_REGISTER_BYTES), 0);
+    CHECK("has the border that is now reported", written[26], 6);
+}
+
+static void snapshots(void) {
+    uint8_t *file = room(ULB_SNA_BYTES_48K, 0);
+    fill_banks(file + 27, (const uint8_t[]){0, 1, 2}, 3);
+    one_snapshot(ULB_48K, file, ULB_SNA_BYTES_48K, 0);
+
+    file = room(ULB_SNA_BYTES_128K, 0);
+    fill_banks(file + 27, (const uint8_t[]){5, 2, 4}, 3);
+    fill_banks(file + 49183, (const uint8_t[]){0, 1, 3, 6, 7}, 5);
+    one_snapshot(ULB_128K, file, ULB_SNA_BYTES_128K, 0x34); /* locked */
+
+    file = room(ULB_SNA_BYTES_128K_TWICE, 0);
+    fill_banks(file + 27, (const uint8_t[]){5, 2, 2}, 3);
+    fill_banks(file + 49183, (const uint8_t[]){0, 1, 3, 4, 6, 7}, 6);
+    one_snapshot(ULB_128K, file, ULB_SNA_BYTES_128K_TWICE, 0xCA);
+    fill_banks(file + 27, (const uint8_t[]){5, 2, 5}, 3);
+    one_snapshot(ULB_128K, file, ULB_SNA_BYTES_128K_TWICE, 0x05);
+}
+
 static void helpers(void) {
     static const struct { uint8_t (*call)(uint32_t, uint8_t *, size_t); uint32_t n; unsigned long gives; } rows[] = {
         {ulb_bitmap_line_addr, 0, 0x4000}, {ulb_bitmap_line_addr, 1, 0x4100}, {ulb_bitmap_line_addr, 191, 0x57E0},
@@ -549,6 +608,7 @@ int main(void) {
     stills();
     all_screen_files();
     mid_frames();
+    snapshots();
     helpers();
     left_over();
     printf("calls: %u checks, %u failed\n", checks, failures);

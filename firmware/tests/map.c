@@ -1,6 +1,8 @@
 /* Holds the wrapper's read without a call (ulb_machine_byte) to ulb_read_internal: at the edges of each block and across it, on
- * both kinds, over every 7FFD byte, by either way of writing it, locked or not, after a restart, a loaded record and a copy.
- * Then what else the wrapper does by itself: screen files, and its starts in black and in a colour.
+ * both kinds, over every 7FFD byte, by either way of writing it, locked or not, after a restart, a loaded record, a snapshot
+ * and a copy.
+ * Then what else the wrapper does by itself: screen files, its starts in black, in a colour and from a snapshot, and the
+ * registers of one by name.
  * Prints one line a failure and a last line `map: N checks, M failed`; exit status 1 if any failed. */
 #include <stdio.h>
 #include <string.h>
@@ -71,7 +73,7 @@ static void screen_files(void) {
     CHECK("no page 8", ulb_machine_load_scr(&m, file, sizeof file, 8), ULB_BAD_PAGE);
     CHECK("page 6 is no video page", ulb_machine_load_scr(&m, file, sizeof file, 6), ULB_NO_VIDEO_PAGE);
     CHECK("which has words", strcmp(ulb_refusal_text(ULB_NO_VIDEO_PAGE), "a RAM page that is no video page"), 0);
-    CHECK("and 10 has none", strcmp(ulb_refusal_text(10), "no refusal has this number"), 0);
+    CHECK("and 12 has none", strcmp(ulb_refusal_text(12), "no refusal has this number"), 0);
 }
 
 /* After a start ROM is there and RAM empty; the first frame, with no border write, shows the beam's colour, and black
@@ -119,6 +121,113 @@ static void starts(uint32_t kind) {
         CHECK("restart", ulb_machine_restart(&m), ULB_OK);
         check_started(0);
     }
+}
+
+/* The wrapper's snapshots, for each bank that can be paged: what a machine writes another of its kind starts from, and so does
+ * the machine itself again. One that is refused writes nothing. */
+static void snapshots(uint32_t kind, uint8_t paging) {
+    static uint8_t file[ULB_SNA_BYTES_128K_TWICE + 1], again[sizeof file], rom[ULB_ROM_BYTES_128K];
+    uint8_t registers[ULB_REGISTER_BYTES], back[ULB_REGISTER_BYTES], held[ULB_REGISTER_BYTES];
+    size_t rom_len = kind == ULB_48K ? ULB_ROM_BYTES_48K : ULB_ROM_BYTES_128K;
+    bool twice = kind == ULB_128K && (paging % 8 == 5 || paging % 8 == 2);
+    size_t size = kind == ULB_48K ? ULB_SNA_BYTES_48K : twice ? ULB_SNA_BYTES_128K_TWICE : ULB_SNA_BYTES_128K;
+    memset(rom, ROM_BYTE, sizeof rom);
+    for (unsigned i = 0; i < sizeof registers; i++) registers[i] = (uint8_t)(3 * i + 1);
+    fill(&m, kind);
+    ulb_machine_write_7ffd(&m, paging);
+    CHECK("border", ulb_machine_write_io(&m, 0x00FE, 6).value, ULB_WROTE_BORDER);
+    CHECK("the size that is due", ulb_machine_sna_bytes(&m), size);
+    memcpy(&other, &m, sizeof m);
+    CHECK("a short export", ulb_machine_save_sna(&m, file, size - 1, registers), ULB_WRONG_SIZE);
+    CHECK("a long one", ulb_machine_save_sna(&m, file, size + 1, registers), ULB_WRONG_SIZE);
+    CHECK("export", ulb_machine_save_sna(&m, file, size, registers), ULB_OK);
+    CHECK("changes nothing", memcmp(&m, &other, sizeof m), 0);
+
+    /* a machine that was never started */
+    memset(&other, 0xAA, sizeof other);
+    memset(back, 0xAA, sizeof back);
+    memcpy(&m, &other, sizeof m);
+    memcpy(held, back, sizeof held);
+    CHECK("no such kind", ulb_machine_init_sna(&m, 2, rom, rom_len - 1, file, size - 1, back), ULB_BAD_MACHINE);
+    CHECK("a short ROM", ulb_machine_init_sna(&m, kind, rom, rom_len - 1, file, size - 1, back), ULB_BAD_LENGTH);
+    CHECK("no ROM", ulb_machine_init_sna(&m, kind, NULL, rom_len, file, size - 1, back), ULB_BAD_LENGTH);
+    CHECK("a short file", ulb_machine_init_sna(&m, kind, rom, rom_len, file, size - 1, back), ULB_WRONG_SIZE);
+    if (twice) {
+        file[32795] ^= 1;
+        CHECK("unequal copies", ulb_machine_init_sna(&m, kind, rom, rom_len, file, size, back), ULB_UNEQUAL_COPIES);
+        file[32795] ^= 1;
+    }
+    CHECK("nothing was written", memcmp(&m, &other, sizeof m) | memcmp(back, held, sizeof back), 0);
+    CHECK("init from a snapshot", ulb_machine_init_sna(&m, kind, rom, rom_len, file, size, back), ULB_OK);
+    CHECK("ROM", ulb_machine_byte(&m, 0x3FFF), ROM_BYTE);
+    CHECK("no device, and the tape bit is 1", m.devices[24] == 1 && m.devices[0] == 0xFF && m.devices[25] == 0, 1);
+    SAME(&m, 997);
+
+    /* and again, into one whose RAM, paging and devices are others, and stay if it is refused */
+    ulb_machine_write_7ffd(&m, 0x10);
+    ulb_machine_set_tape(&m, false);
+    for (unsigned addr = 0x4000; addr < 0x10000; addr += 101) ulb_machine_write(&m, (uint16_t)addr, 0xA5);
+    memcpy(&other, &m, sizeof m);
+    memset(back, 0xAA, sizeof back);
+    CHECK("a long file", ulb_machine_load_sna(&m, file, size + 1, back), ULB_WRONG_SIZE);
+    CHECK("all stays", memcmp(&m, &other, sizeof m) | memcmp(back, held, sizeof back), 0);
+    CHECK("load", ulb_machine_load_sna(&m, file, size, back), ULB_OK);
+    SAME(&m, 997);
+    CHECK("the devices stay", m.devices[24], 0);
+    CHECK("the ROM too", ulb_machine_byte(&m, 0), ROM_BYTE);
+    CHECK("paging and lock", ulb_machine_read_7ffd(&m).number, kind == ULB_48K ? 0 : paging);
+    CHECK("reported border", ulb_machine_reported_border(&m), 6);
+    CHECK("beam colour", ulb_machine_beam_colour(&m), 6);
+    CHECK("frame clock", ulb_machine_frame_clock(&m), 0);
+    registers[26] = 6; /* not what was lent, but the border */
+    if (kind == ULB_48K) memset(registers + 27, 0, 3);
+    CHECK("the registers", memcmp(back, registers, sizeof back), 0);
+    for (unsigned p = 0; p < (kind == ULB_48K ? 3 : 8); p++) {
+        const uint8_t *bank = ulb_machine_ram_page(&m, p).bytes;
+        unsigned wrong = 0;
+        for (unsigned i = 0; i < ULB_PAGE_BYTES; i++) wrong += bank[i] != filling(p, i);
+        CHECK("bytes of another bank", wrong, 0);
+    }
+    CHECK("export again", ulb_machine_save_sna(&m, again, ulb_machine_sna_bytes(&m), back), ULB_OK);
+    CHECK("is the same file", memcmp(again, file, size), 0);
+}
+
+/* Each register of a snapshot by its name, from the header's places; and back, with no byte lost. */
+static void registers_by_name(void) {
+    static const uint8_t bytes[ULB_REGISTER_BYTES] = {
+        0x3F, 0x02, 0x01, 0x04, 0x03, 0x06, 0x05, 0x08, 0x07, 0x0A, 0x09, 0x0C, 0x0B, 0x0E, 0x0D, 0x10, 0x0F, 0x12, 0x11, 0x04,
+        0x7E, 0x14, 0x13, 0x16, 0x15, 0x02, 0xF9, 0x18, 0x17, 0x5D,
+    };
+    uint8_t back[ULB_REGISTER_BYTES];
+    ulb_z80_registers z = ulb_z80_registers_of(bytes);
+    CHECK("I", z.i, 0x3F);
+    CHECK("HL'", z.hl2, 0x0102);
+    CHECK("DE'", z.de2, 0x0304);
+    CHECK("BC'", z.bc2, 0x0506);
+    CHECK("AF'", z.af2, 0x0708);
+    CHECK("HL", z.hl, 0x090A);
+    CHECK("DE", z.de, 0x0B0C);
+    CHECK("BC", z.bc, 0x0D0E);
+    CHECK("IY", z.iy, 0x0F10);
+    CHECK("IX", z.ix, 0x1112);
+    CHECK("IFF2", z.iff & ULB_Z80_IFF2, ULB_Z80_IFF2);
+    CHECK("R", z.r, 0x7E);
+    CHECK("AF", z.af, 0x1314);
+    CHECK("SP", z.sp, 0x1516);
+    CHECK("interrupt mode", z.im, 2);
+    CHECK("border", z.border, 0xF9);
+    CHECK("PC", z.pc, 0x1718);
+    CHECK("TR-DOS", z.tr_dos, 0x5D);
+    for (unsigned i = 0; i < ULB_REGISTER_BYTES; i++)
+        for (unsigned v = 0; v < 256; v += 51) {
+            uint8_t one[ULB_REGISTER_BYTES];
+            memcpy(one, bytes, sizeof one);
+            one[i] = (uint8_t)v;
+            z = ulb_z80_registers_of(one);
+            memset(back, 0xAA, sizeof back);
+            ulb_z80_registers_to(&z, back);
+            CHECK("no byte is lost", memcmp(one, back, sizeof one), 0);
+        }
 }
 
 int main(void) {
@@ -210,6 +319,14 @@ int main(void) {
 
     starts(ULB_48K);
     starts(ULB_128K);
+    snapshots(ULB_48K, 0);
+    for (uint8_t bank = 0; bank < 8; bank++) {
+        snapshots(ULB_128K, (uint8_t)(0x10 + bank));
+        snapshots(ULB_128K, (uint8_t)(0xE8 + bank)); /* locked */
+    }
+    CHECK("10 has words", strcmp(ulb_refusal_text(ULB_WRONG_SIZE), "a snapshot's size is not the one due"), 0);
+    CHECK("and 11", strcmp(ulb_refusal_text(ULB_UNEQUAL_COPIES), "the two copies of a bank in a snapshot differ"), 0);
+    registers_by_name();
     printf("map: %u checks, %u failed\n", checks, failures);
     return failures != 0;
 }

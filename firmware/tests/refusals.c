@@ -17,28 +17,30 @@ enum { WRONG_LIMIT = 1, WRONG_ORDER, WRONG_COVERAGE, WRONG_SLICE, WRONG_WRITE };
 
 /* ---- What is expected ------------------------------------------------------------------------------------------------ */
 
-/* The refusals of each call, as ulb.h lists them. */
+/* The refusals of each call, as ulb.h lists them, a sign each: A is 10, B is 11. */
+static const char sign_of[REFUSALS + 1] = "0123456789AB";
 static const char *const gives[KINDS] = {
-    [START] = "12", [START_COLOUR] = "128",
+    [START] = "12", [START_COLOUR] = "128", [LOAD_SNA] = "12AB",
     [WAIT_INTERNAL] = "2356", [WAIT_MREQ] = "2356", [WAIT_NO_MREQ] = "2356", [READ_IO] = "2346", [WRITE_IO] = "2346",
     [READ_INTERNAL] = "23", [WRITE_INTERNAL] = "23", [WRITE_7FFD] = "23", [READ_7FFD] = "23", [INT_ACTIVE] = "23",
     [FRAMES_COUNT] = "23", [RESET_FRAME_COUNTER] = "23", [LOAD_PAGE] = "237", [SAVE_SCR] = "23",
-    [LOAD_SCR] = "2379", [RAM_PAGE] = "237", [BLOCK] = "238", [SHOWN_PICTURE] = "23", [STILL_PICTURE] = "238",
+    [LOAD_SCR] = "2379", [SAVE_SNA] = "23A", [RAM_PAGE] = "237", [BLOCK] = "238", [SHOWN_PICTURE] = "23", [STILL_PICTURE] = "238",
     [BITMAP_LINE_ADDR] = "28", [BITMAP_LINE_REL] = "28", [BITMAP_COL_REL] = "28", [ATTR_ROW_REL] = "28",
     [ATTR_COL_REL] = "28", [COLOR_FROM_BITS] = "28",
 };
 
 /* The causes in the order in which they are judged, and the number that each gives. */
 typedef enum {
-    MACHINE, RECORD_LENGTH, UNSOUND, OTHER_LENGTH, FLAG, LONG_WAIT, FRAMES_FULL, PAGE, NO_VIDEO_PAGE, RANGE, CAUSES
+    MACHINE, RECORD_LENGTH, UNSOUND, OTHER_LENGTH, FLAG, LONG_WAIT, FRAMES_FULL, PAGE, NO_VIDEO_PAGE, RANGE, SIZE, COPIES,
+    CAUSES
 } cause;
-static const unsigned number_of[CAUSES] = {1, 2, 3, 2, 4, 5, 6, 7, 9, 8};
+static const unsigned number_of[CAUSES] = {1, 2, 3, 2, 4, 5, 6, 7, 9, 8, 10, 11};
 
 /* Numbers by their limits: the last that is accepted, and the first that is not; of video pages one that is, and one
  * that is not. `machine` is 2 where both agree. */
 static const struct { call_kind from, to; cause why; unsigned machine; uint32_t accepted, refused; } limits[] = {
-    {START, START_COLOUR, MACHINE, 0, 0, 2},
-    {START, START_COLOUR, MACHINE, 1, 1, 2},
+    {START, LOAD_SNA, MACHINE, 0, 0, 2},
+    {START, LOAD_SNA, MACHINE, 1, 1, 2},
     {START_COLOUR, START_COLOUR, RANGE, 2, 7, 8},
     {START_COLOUR, START_COLOUR, RANGE, 2, 0, 256}, /* the whole number counts */
     {START_COLOUR, START_COLOUR, RANGE, 2, 7, 0x80000007},
@@ -67,6 +69,29 @@ static const struct { call_kind from, to; cause why; unsigned machine; uint32_t 
     {COLOR_FROM_BITS, COLOR_FROM_BITS, RANGE, 2, 7, 8},
 };
 
+/* Snapshots by 7FFD byte: the size that is due, and sizes that are not: a byte less and more, none, the other machine's and
+ * the one of the other 7FFD bytes; on 128K just without the 7FFD byte, and with it as the last. */
+static const struct { unsigned machine; uint8_t paging; uint32_t due, not_due[7]; } sizes[] = {
+    {0, 0x00, 49179, {49178, 49180, 0, 131103, 147487, 27, 49183}},
+    {1, 0x00, 131103, {131102, 131104, 0, 49179, 147487, 49181, 49182}},
+    {1, 0x31, 131103, {131102, 131104, 0, 49179, 147487, 49181, 49182}},
+    {1, 0x02, 147487, {147486, 147488, 0, 49179, 131103, 49181, 49182}},
+    {1, 0xCB, 131103, {131102, 131104, 0, 49179, 147487, 49181, 49182}},
+    {1, 0x14, 131103, {131102, 131104, 0, 49179, 147487, 49181, 49182}},
+    {1, 0xFD, 147487, {147486, 147488, 0, 49179, 131103, 49181, 49182}},
+    {1, 0x26, 131103, {131102, 131104, 0, 49179, 147487, 49181, 49182}},
+    {1, 0xDF, 131103, {131102, 131104, 0, 49179, 147487, 49181, 49182}},
+};
+
+/* A 128K's snapshots whose copies of bank 5 (27, 32,795) or 2 (16,411, 32,795) differ, at a byte of either copy: the first,
+ * the second, one within, the last but one and the last. */
+static const struct { uint8_t paging; uint32_t at; } copies[] = {
+    {0x05, 27}, {0x05, 28}, {0x05, 10000}, {0x05, 16409}, {0x05, 16410},
+    {0x3D, 32795}, {0x3D, 32796}, {0x3D, 40000}, {0x3D, 49177}, {0x3D, 49178},
+    {0x02, 16411}, {0x02, 16412}, {0x02, 20000}, {0x02, 32793}, {0x02, 32794},
+    {0xE2, 32795}, {0xE2, 32796}, {0xE2, 45678}, {0xE2, 49177}, {0xE2, 49178},
+};
+
 /* Clocks of interest: the first block and all blocks reached, the first pixel pair, frame end, the frame's length. */
 typedef enum { BLOCK_1, BLOCKS_ALL, PAIR_1, EDGE_END, FRAME } moment;
 static const uint32_t clock_of[2][5] = {{14338, 57246, 8945, 62641, 69888}, {14364, 58036, 8875, 63527, 70908}};
@@ -92,17 +117,20 @@ static const struct { bool sound; unsigned machine, at, value; } bytes[] = {
 
 /* ---- One case -------------------------------------------------------------------------------------------------------- */
 
-/* A call with what it is lent. As `good` makes it, it is accepted. */
-typedef struct { call c; uint8_t state[23], devices[35]; } attempt;
+/* A call with what it is lent; of a snapshot its 7FFD byte, if it has that many, and the byte that is unlike the others,
+ * 0 for none. As `good` makes it, it is accepted. */
+typedef struct { call c; uint8_t state[23], devices[35], paging; uint32_t unlike; } attempt;
 
 static unsigned machine; /* whose lengths are right */
 static bool at_start;    /* of their zones stand the slices, or else at the end */
 static zone zones[SLICES];
 static uint8_t *before[SLICES];
-static bool tried[KINDS][10], length_tried[KINDS][SLICES][2];
+static bool tried[KINDS][REFUSALS], length_tried[KINDS][SLICES][2];
 static const attempt *under_way;
 
 static bool lends(call_kind k, slice s) { return shapes[k].lent >> s & 1; }
+/* It is judged by its length, 2; a snapshot by its size. */
+static bool by_length(call_kind k, slice s) { return lends(k, s) && s != SNA; }
 static bool timed(call_kind k) { return k >= WAIT_INTERNAL && k <= WRITE_IO; }
 static size_t right(call_kind k, slice s) { return right_length(s, machine, shapes[k].answer); }
 
@@ -111,7 +139,7 @@ static void put(uint8_t *p, unsigned size, uint32_t v) {
 }
 
 static attempt good(call_kind k) {
-    attempt t = {{k, {0}, 0, 0, 0x7FFD, 0}, {'U', 'L', 'B', 1}, {0}};
+    attempt t = {{k, {0}, 0, 0, 0x7FFD, 0}, {'U', 'L', 'B', 1}, {0}, 0, 0};
     t.state[5] = (uint8_t)machine;
     put(t.state + 6, 4, 20000); /* in the picture: blocks to paint, border behind the beam */
     memset(t.devices, 255, sizeof t.devices);
@@ -119,6 +147,7 @@ static attempt good(call_kind k) {
     t.devices[24] = 0;
     for (slice s = STATE; s < SLICES; s++)
         if (lends(k, s)) t.c.length[s] = right(k, s);
+    if (lends(k, SNA)) t.c.length[SNA] = sizes[machine].due;
     if (is_start(k)) t.c.number = machine;
     if (k == LOAD_SCR && machine == 1) t.c.number = 7;
     if (k == ATTR_ROW_REL || k == ATTR_COL_REL) t.c.number = 0x1900;
@@ -156,6 +185,11 @@ static void lay_out(const attempt *t, unsigned want, uint8_t *p[SLICES]) {
     memset(zones[ANSWER].rw, 0xAA, zones[ANSWER].size);
     memcpy(own(t, STATE), t->state, t->c.length[STATE] < 23 ? t->c.length[STATE] : 23);
     memcpy(own(t, DEVICES), t->devices, t->c.length[DEVICES] < 35 ? t->c.length[DEVICES] : 35);
+    if (lends(t->c.kind, SNA)) {
+        memset(zones[SNA].rw, 0x33, zones[SNA].size);
+        if (t->c.length[SNA] > SNA_PAGING_AT) own(t, SNA)[SNA_PAGING_AT] = t->paging;
+        if (t->c.length[SNA] > t->unlike && t->unlike > 0) own(t, SNA)[t->unlike] ^= 1;
+    }
     for (slice s = STATE; s < SLICES; s++) {
         bool writes = s == ANSWER ? t->c.length[s] == right(t->c.kind, s) : want == 0 && (shapes[t->c.kind].written >> s & 1);
         p[s] = (writes ? zones[s].rw : zones[s].ro) + place(t, s);
@@ -186,8 +220,16 @@ static void try_it(const attempt *t, unsigned want) {
 
 /* ---- One cause at a time --------------------------------------------------------------------------------------------- */
 
-/* A cause: which, of which slice (lengths) or at which byte (flags), and the number, length or byte put there. */
+/* A cause: which, of which slice (lengths), at which byte (flags) or with which 7FFD byte (snapshots), and the number,
+ * length or byte put there. */
 typedef struct { cause why; unsigned where; uint32_t value; } spoiler;
+
+/* A snapshot of this 7FFD byte and size: the file's own, and the record's where one is written. */
+static void with_paging(attempt *t, unsigned paging, uint32_t size) {
+    t->c.length[SNA] = size;
+    t->paging = (uint8_t)paging;
+    if (t->c.kind == SAVE_SNA) t->state[17] = (uint8_t)paging;
+}
 
 static void spoil(attempt *t, spoiler s) {
     switch (s.why) {
@@ -197,6 +239,11 @@ static void spoil(attempt *t, spoiler s) {
         case FLAG: t->devices[s.where] = (uint8_t)s.value; break;
         case FRAMES_FULL: put(t->state + 10, 4, s.value); break;
         case RANGE: *(t->c.kind == START_COLOUR ? &t->c.colour : &t->c.number) = s.value; break;
+        case SIZE: with_paging(t, s.where, s.value); break;
+        case COPIES:
+            with_paging(t, s.where, 147487);
+            t->unlike = s.value;
+            break;
         default: t->c.number = s.value;
     }
 }
@@ -211,7 +258,7 @@ static cause length_cause(slice s) { return s == STATE ? RECORD_LENGTH : OTHER_L
 
 static void try_lengths(call_kind k) {
     for (slice s = STATE; s < SLICES; s++) {
-        if (!lends(k, s)) continue;
+        if (!by_length(k, s)) continue;
         size_t is = right(k, s), other = s == ANSWER ? 15 - is : right_length(s, 1 - machine, 0);
         const size_t bad[] = {is - 1, is + 1, 0, other};
         for (int i = 0; i < 4; i++)
@@ -232,6 +279,18 @@ static void try_limits(call_kind k) {
     }
     /* "a timed call with passed frames at 4,294,967,295", and no other */
     if (lends(k, STATE) && !timed(k)) try_spoilt(k, (spoiler){FRAMES_FULL, 0, 4294967295u}, 0);
+}
+
+static void try_snapshots(call_kind k) {
+    if (!lends(k, SNA)) return;
+    for (size_t i = 0; i < sizeof sizes / sizeof *sizes; i++) {
+        if (sizes[i].machine != machine) continue;
+        try_spoilt(k, (spoiler){SIZE, sizes[i].paging, sizes[i].due}, 0);
+        for (int j = 0; j < 7; j++) try_spoilt(k, (spoiler){SIZE, sizes[i].paging, sizes[i].not_due[j]}, 10);
+        length_tried[k][SNA][machine] = true;
+    }
+    for (size_t i = 0; k == LOAD_SNA && machine == 1 && i < sizeof copies / sizeof *copies; i++)
+        try_spoilt(k, (spoiler){COPIES, copies[i].paging, copies[i].at}, 11);
 }
 
 static void try_flags(call_kind k) {
@@ -261,7 +320,8 @@ static void try_records(call_kind k) {
 
 /* ---- Several causes at once: the earlier one's number ------------------------------------------------------------------ */
 
-enum { MOST_CAUSES = 2 * SLICES + sizeof limits / sizeof *limits + CAUSES };
+enum { MOST_CAUSES = 2 * SLICES + sizeof limits / sizeof *limits + 7 * sizeof sizes / sizeof *sizes
+                     + sizeof copies / sizeof *copies + CAUSES };
 
 /* Each cause that a call has, with each slice a byte short and a byte long; how many. In the order of judging. */
 static unsigned all_causes(call_kind k, spoiler out[MOST_CAUSES]) {
@@ -271,10 +331,16 @@ static unsigned all_causes(call_kind k, spoiler out[MOST_CAUSES]) {
         if (w == FLAG && lends(k, DEVICES)) out[n++] = (spoiler){w, 24, 2};
         for (slice s = STATE; s < SLICES; s++)
             for (int by = -1; by < 2; by += 2)
-                if (lends(k, s) && w == length_cause(s)) out[n++] = (spoiler){w, s, (uint32_t)((int)right(k, s) + by)};
+                if (by_length(k, s) && w == length_cause(s)) out[n++] = (spoiler){w, s, (uint32_t)((int)right(k, s) + by)};
         for (size_t i = 0; i < sizeof limits / sizeof *limits; i++)
             if (limits[i].why == w && k >= limits[i].from && k <= limits[i].to && limits[i].machine != 1 - machine)
                 out[n++] = (spoiler){w, 0, limits[i].refused};
+        for (size_t i = 0; w == SIZE && lends(k, SNA) && i < sizeof sizes / sizeof *sizes; i++)
+            for (int j = 0; j < 7; j += 2) /* of each form, with bank 5 or 2 twice or neither, one 7FFD byte and four sizes, */
+                if (sizes[i].machine == machine && (sizes[i].paging == 0 || sizes[i].due == 147487))
+                    out[n++] = (spoiler){w, sizes[i].paging, sizes[i].not_due[j]};
+        for (size_t i = 4; w == COPIES && k == LOAD_SNA && machine == 1 && i < sizeof copies / sizeof *copies; i += 5)
+            out[n++] = (spoiler){w, copies[i].paging, copies[i].at}; /* and of each copy the last byte */
     }
     return n;
 }
@@ -302,8 +368,8 @@ static void try_order(call_kind k) {
 /* Each refusal that a call has was tried, and none that it has not; each slice's length on each machine. */
 static void check_coverage(call_kind k) {
     const char *numbers = wrong == WRONG_COVERAGE && k == FRAMES_COUNT ? "236" : gives[k];
-    for (int i = 1; i < 10; i++)
-        if (tried[k][i] != (strchr(numbers, '0' + i) != NULL)) {
+    for (int i = 1; i < REFUSALS; i++)
+        if (tried[k][i] != (strchr(numbers, sign_of[i]) != NULL)) {
             failures++;
             printf("%s: refusal %d was %s\n", shapes[k].name, i, tried[k][i] ? "expected, and it has none" : "never tried");
         }
@@ -330,6 +396,7 @@ int main(int argc, char **argv) {
             try_it(&t, 0);
             try_lengths(k);
             try_limits(k);
+            try_snapshots(k);
             try_flags(k);
             try_records(k);
             try_order(k);

@@ -12,7 +12,7 @@
 //!
 //! The layer is not proved and adds no rule: every slice goes out with its own length and no two overlap, which is all that
 //! the bus asks of its caller (docs/DUTIES.md), so no function here is unsafe to call. No dependency, and `no_std`: the heap
-//! is used by [`Machine::boxed`] alone.
+//! is used by [`Machine::boxed`] and [`Machine::from_sna`] alone.
 #![no_std]
 
 extern crate alloc;
@@ -26,6 +26,12 @@ pub const BORDER_BYTES: usize = 76800;
 pub const PAGE_BYTES: usize = 16384;
 /// An SCR file: 6,144 bitmap bytes in page order, then 768 attribute bytes.
 pub const SCREEN_FILE_BYTES: usize = 6912;
+/// A snapshot's 27 header bytes, PC and the TR-DOS byte: [`Registers`].
+pub const REGISTER_BYTES: usize = 30;
+pub const SNA_BYTES_48K: usize = 49179;
+pub const SNA_BYTES_128K: usize = 131103;
+/// A 128K's snapshot where bank 5 or 2 is the paged one, and so stands twice.
+pub const SNA_BYTES_128K_TWICE: usize = 147487;
 
 #[derive(Clone, Copy, Debug, PartialEq, Eq)]
 pub enum Kind {
@@ -53,6 +59,14 @@ impl Kind {
             Kind::Spectrum128 => 70908,
         }
     }
+    /// Bytes of a snapshot with this 7FFD byte, whose low three bits are the paged bank; on 48K whatever it is.
+    pub const fn sna_bytes(self, paging: u8) -> usize {
+        match (self, paging & 7) {
+            (Kind::Spectrum48, _) => SNA_BYTES_48K,
+            (Kind::Spectrum128, 2 | 5) => SNA_BYTES_128K_TWICE,
+            (Kind::Spectrum128, _) => SNA_BYTES_128K,
+        }
+    }
 }
 
 /// Why a call did nothing. The numbers are those of `ulb.h`.
@@ -68,6 +82,10 @@ pub enum Refusal {
     BadNumber = 8,
     /// The RAM page is there, but is none that can be shown.
     NoVideoPage = 9,
+    /// A snapshot has another size than its kind and its 7FFD byte ask for.
+    WrongSize = 10,
+    /// Bank 5 or 2 stands twice in a snapshot, and the copies differ.
+    UnequalCopies = 11,
 }
 
 fn accepted(refusal: u8) -> Result<(), Refusal> {
@@ -81,7 +99,9 @@ fn accepted(refusal: u8) -> Result<(), Refusal> {
         6 => Refusal::FramesFull,
         7 => Refusal::BadPage,
         8 => Refusal::BadNumber,
-        _ => Refusal::NoVideoPage,
+        9 => Refusal::NoVideoPage,
+        10 => Refusal::WrongSize,
+        _ => Refusal::UnequalCopies,
     })
 }
 
@@ -144,11 +164,99 @@ impl Devices {
     }
 }
 
+/// What a snapshot (SNA) has for the Z80: its header's registers, PC and the TR-DOS byte. A name that ends in 2 is the second
+/// set's: `af2` is AF'. [`Registers::from_bytes`] and [`Registers::to_bytes`] lose no bit.
+#[derive(Clone, Copy, Debug, Default, PartialEq, Eq)]
+pub struct Registers {
+    pub af: u16,
+    pub bc: u16,
+    pub de: u16,
+    pub hl: u16,
+    pub af2: u16,
+    pub bc2: u16,
+    pub de2: u16,
+    pub hl2: u16,
+    pub ix: u16,
+    pub iy: u16,
+    pub sp: u16,
+    pub i: u8,
+    pub r: u8,
+    /// Header byte 19 with all its bits; see [`Registers::iff2`].
+    pub iff: u8,
+    /// The interrupt mode: 0 to 2, in a good file.
+    pub im: u8,
+    /// Header byte 26 with all its bits. An export ignores it: the reported border goes there.
+    pub border: u8,
+    /// On 48K 0, and ignored by an export: there PC is on the stack, its low byte at SP, and a RETN takes it from there.
+    pub pc: u16,
+    /// On 48K 0, and ignored by an export.
+    pub tr_dos: u8,
+}
+
+impl Registers {
+    pub fn iff2(&self) -> bool {
+        self.iff & 4 != 0
+    }
+
+    /// The 27 header bytes in the file's order, then PC and the TR-DOS byte.
+    pub fn from_bytes(bytes: &[u8; REGISTER_BYTES]) -> Registers {
+        let word = |at: usize| word16(&bytes[at..]);
+        Registers {
+            i: bytes[0],
+            hl2: word(1),
+            de2: word(3),
+            bc2: word(5),
+            af2: word(7),
+            hl: word(9),
+            de: word(11),
+            bc: word(13),
+            iy: word(15),
+            ix: word(17),
+            iff: bytes[19],
+            r: bytes[20],
+            af: word(21),
+            sp: word(23),
+            im: bytes[25],
+            border: bytes[26],
+            pc: word(27),
+            tr_dos: bytes[29],
+        }
+    }
+
+    pub fn to_bytes(&self) -> [u8; REGISTER_BYTES] {
+        let words = [
+            (1, self.hl2),
+            (3, self.de2),
+            (5, self.bc2),
+            (7, self.af2),
+            (9, self.hl),
+            (11, self.de),
+            (13, self.bc),
+            (15, self.iy),
+            (17, self.ix),
+            (21, self.af),
+            (23, self.sp),
+            (27, self.pc),
+        ];
+        let single =
+            [(0, self.i), (19, self.iff), (20, self.r), (25, self.im), (26, self.border), (29, self.tr_dos)];
+        let mut out = [0; REGISTER_BYTES];
+        for (at, word) in words {
+            out[at..at + 2].copy_from_slice(&word.to_le_bytes());
+        }
+        for (at, byte) in single {
+            out[at] = byte;
+        }
+        out
+    }
+}
+
 /// The code of a port write or 7FFD write that changed the paging.
 const PAGED: u32 = 5;
 const STATE_BYTES: usize = 23;
-/// Where a record has its kind.
+/// Where a record has its kind, and its 7FFD byte.
 const KIND_AT: usize = 5;
+const PAGING_AT: usize = 17;
 const ROM_PAGES: usize = 2;
 const RAM_PAGES: usize = 8;
 
@@ -167,8 +275,8 @@ impl Memory {
     }
 }
 
-/// A machine and its memory: 340 KB, so keep it in a static or on the heap. Before [`Machine::start`] every call is refused
-/// with [`Refusal::Unsound`].
+/// A machine and its memory: 340 KB, so keep it in a static or on the heap. Before a start, which [`Machine::start_sna`] is
+/// too, every call is refused with [`Refusal::Unsound`].
 pub struct Machine {
     pub devices: Devices,
     kind: Kind,
@@ -229,6 +337,13 @@ impl Machine {
         Box::new(Machine::new())
     }
 
+    /// One on the heap, started from a snapshot, and what the snapshot has for the Z80: see [`Machine::start_sna`].
+    pub fn from_sna(kind: Kind, rom: &[u8], file: &[u8]) -> Result<(Box<Machine>, Registers), Refusal> {
+        let mut machine = Machine::boxed();
+        let registers = machine.start_sna(kind, rom, file)?;
+        Ok((machine, registers))
+    }
+
     /// Takes a copy of the ROM and starts, with a black border. The devices stay as they are. Refused if the ROM has
     /// another length.
     pub fn start(&mut self, kind: Kind, rom: &[u8]) -> Result<(), Refusal> {
@@ -248,6 +363,11 @@ impl Machine {
                 PICTURE_BYTES, self.b.as_mut_ptr(), PICTURE_BYTES, self.border.as_mut_ptr(), BORDER_BYTES, kind as u32,
                 colour)
         })?;
+        self.begin(kind, rom)
+    }
+
+    /// What a start of the layer's own has left to do: kind, ROM and map.
+    fn begin(&mut self, kind: Kind, rom: &[u8]) -> Result<(), Refusal> {
         self.kind = kind;
         for (page, bytes) in self.memory.0.iter_mut().zip(rom.chunks_exact(PAGE_BYTES)) {
             page.copy_from_slice(bytes);
@@ -255,7 +375,53 @@ impl Machine {
         self.renew_map()
     }
 
-    /// A record from a snapshot, as [`Machine::state`] gave it, in the place of the machine's own; RAM is yours to load besides.
+    /// Takes a copy of the ROM and starts from a snapshot (SNA) of this kind: RAM, paging, lock and border are the file's,
+    /// pictures and border are cleared, and the devices stay as they are. Refused, with nothing changed, if the ROM has another
+    /// length; with [`Refusal::WrongSize`] if the file's size is not [`Kind::sna_bytes`] of its own 7FFD byte, which on 128K
+    /// stands at offset 49,181; then with [`Refusal::UnequalCopies`].
+    pub fn start_sna(&mut self, kind: Kind, rom: &[u8], file: &[u8]) -> Result<Registers, Refusal> {
+        if rom.len() != kind.rom_bytes() {
+            return Err(Refusal::BadLength);
+        }
+        let registers = self.import(kind, file)?;
+        self.begin(kind, rom).map(|()| registers)
+    }
+
+    /// Starts again, from a snapshot of the machine's own kind: same ROM, same devices. Refused as [`Machine::start_sna`] is.
+    pub fn load_sna(&mut self, file: &[u8]) -> Result<Registers, Refusal> {
+        self.read_7ffd()?; // an import judges no record, but a machine that was never started has no ROM
+        let registers = self.import(self.kind, file)?;
+        self.renew_map().map(|()| registers)
+    }
+
+    fn import(&mut self, kind: Kind, file: &[u8]) -> Result<Registers, Refusal> {
+        let ram = kind.ram_bytes();
+        let mut registers = [0; REGISTER_BYTES];
+        accepted(unsafe {
+            raw::ulb_load_sna(self.state.as_mut_ptr(), 23, self.memory.ram_mut(), ram, file.as_ptr(), file.len(),
+                registers.as_mut_ptr(), REGISTER_BYTES, self.a.as_mut_ptr(), PICTURE_BYTES, self.b.as_mut_ptr(),
+                PICTURE_BYTES, self.border.as_mut_ptr(), BORDER_BYTES, kind as u32)
+        })?;
+        Ok(Registers::from_bytes(&registers))
+    }
+
+    /// How many bytes [`Machine::save_sna`] writes now; another bank paged in may change it. Of a machine that was never
+    /// started it means nothing.
+    pub const fn sna_bytes(&self) -> usize {
+        self.kind.sna_bytes(self.state[PAGING_AT])
+    }
+
+    /// A snapshot of the machine as it stands, in no time, into [`Machine::sna_bytes`] of the caller's; of another size it is
+    /// refused with [`Refusal::WrongSize`]. The header's border is the one that the machine reports.
+    pub fn save_sna(&self, file: &mut [u8], registers: &Registers) -> Result<(), Refusal> {
+        let (ram, registers) = (self.kind.ram_bytes(), registers.to_bytes());
+        accepted(unsafe {
+            raw::ulb_save_sna(self.state.as_ptr(), 23, self.memory.ram(), ram, file.as_mut_ptr(), file.len(),
+                registers.as_ptr(), REGISTER_BYTES)
+        })
+    }
+
+    /// A record that was kept, as [`Machine::state`] gave it, in the place of the machine's own; RAM is yours to load besides.
     /// Refused, with nothing changed, if it is another kind's or not sound.
     pub fn load_state(&mut self, state: &[u8; STATE_BYTES]) -> Result<(), Refusal> {
         if state[KIND_AT] != self.kind as u8 {
@@ -314,8 +480,8 @@ impl Machine {
 
     /// The byte at an address, in no time and without a call: for a processor, which asks for thousands a frame. It reads where
     /// `ulb_block` said that the address's block is. That this is the byte which [`Machine::read`] would give is proved as long
-    /// as the 7FFD byte stays (crate contracts, proofs/Map.antt); the calls that change it ask `ulb_block` anew: a start, and a
-    /// port or 7FFD write that answers 5. Of a machine that was never started the byte means nothing.
+    /// as the 7FFD byte stays (crate contracts, proofs/Map.antt); the calls that change it ask `ulb_block` anew: a start, from
+    /// a snapshot or not, and a port or 7FFD write that answers 5. Of a machine that was never started the byte means nothing.
     #[inline]
     pub fn byte(&self, addr: u16) -> u8 {
         let (block, offset) = (usize::from(addr) / PAGE_BYTES, usize::from(addr) % PAGE_BYTES);
@@ -459,7 +625,7 @@ impl Machine {
         })
     }
 
-    /// The record, for a snapshot.
+    /// The record, to be kept: see [`Machine::load_state`].
     pub fn state(&self) -> &[u8; STATE_BYTES] {
         &self.state
     }

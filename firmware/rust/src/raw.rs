@@ -37,6 +37,10 @@ calls! {
     ulb_load_page(state: In, state_len: usize, ram: Out, ram_len: usize, bytes: In, bytes_len: usize, page: u32);
     ulb_save_scr(state: In, state_len: usize, ram: In, ram_len: usize, file: Out, file_len: usize);
     ulb_load_scr(state: In, state_len: usize, ram: Out, ram_len: usize, file: In, file_len: usize, page: u32);
+    ulb_load_sna(state: Out, state_len: usize, ram: Out, ram_len: usize, file: In, file_len: usize, registers: Out,
+        registers_len: usize, a: Out, a_len: usize, b: Out, b_len: usize, border: Out, border_len: usize, machine: u32);
+    ulb_save_sna(state: In, state_len: usize, ram: In, ram_len: usize, file: Out, file_len: usize, registers: In,
+        registers_len: usize);
     ulb_ram_page(state: In, state_len: usize, ram: In, ram_len: usize, page: u32, answer: Out, answer_len: usize);
     ulb_block(state: In, state_len: usize, rom: In, rom_len: usize, ram: In, ram_len: usize, block: u32, answer: Out,
         answer_len: usize);

@@ -1,5 +1,8 @@
 //! A few frames through the safe layer. Linked and run on x86-64; elsewhere `cargo check --tests` reads it.
-use ulb_machine::{bitmap_line_addr, Kind, Machine, Mouse, Refusal, PAGE_BYTES, PICTURE_BYTES, SCREEN_FILE_BYTES};
+use ulb_machine::{
+    bitmap_line_addr, Kind, Machine, Mouse, Refusal, Registers, PAGE_BYTES, PICTURE_BYTES, REGISTER_BYTES,
+    SCREEN_FILE_BYTES, SNA_BYTES_128K, SNA_BYTES_128K_TWICE, SNA_BYTES_48K,
+};
 
 fn started(kind: Kind) -> Box<Machine> {
     let mut m = Machine::boxed();
@@ -11,6 +14,8 @@ fn started(kind: Kind) -> Box<Machine> {
 fn refusals() {
     let mut m = Machine::boxed();
     assert_eq!(m.wait(1), Err(Refusal::Unsound));
+    assert_eq!(m.load_sna(&[0; SNA_BYTES_48K]), Err(Refusal::Unsound));
+    assert_eq!(m.save_sna(&mut [0; SNA_BYTES_48K], &Registers::default()), Err(Refusal::Unsound));
     assert_eq!(m.start(Kind::Spectrum48, &[0; 5]), Err(Refusal::BadLength));
     m.start(Kind::Spectrum48, &[0; 16384]).unwrap();
     assert_eq!(m.wait(65536), Err(Refusal::LongWait));
@@ -60,16 +65,18 @@ fn first_frames(m: &mut Machine) -> u8 {
     colours[0]
 }
 
+/// Kind, record, RAM, shown picture, border and the ROM that is paged in.
+fn seen(m: &Machine) -> (Kind, [u8; 23], Vec<u8>, Vec<u8>) {
+    let pictures = [&m.shown_picture().unwrap()[..], &m.border()[..], m.block(0).unwrap()].concat();
+    (m.kind(), *m.state(), ram(m), pictures)
+}
+
 /// A refused start changes nothing: neither kind nor record, nor any byte of memory.
 #[test]
 fn refused_starts() {
     let mut m = filled(Kind::Spectrum48);
     m.write_io(0x00FE, 5).unwrap();
     assert!(m.wait(65535).unwrap().blocks > 0 && m.wait(4353).unwrap().closed);
-    let seen = |m: &Machine| {
-        let pictures = [&m.shown_picture().unwrap()[..], &m.border()[..], m.block(0).unwrap()].concat();
-        (m.kind(), *m.state(), ram(m), pictures)
-    };
     let before = seen(&m);
     for kind in [Kind::Spectrum48, Kind::Spectrum128] {
         let rom = vec![0; kind.rom_bytes()];
@@ -259,4 +266,165 @@ fn a_file_in_mid_frame() {
     assert!(m.wait(69888 - 36788).unwrap().closed);
     let picture = m.shown_picture().unwrap();
     assert!(picture.iter().enumerate().all(|(i, &pixel)| pixel == if i / 8 < before { 0 } else { 14 }));
+}
+
+/// Thirty different bytes; the header's border is yellow, with its high bits set.
+fn register_bytes() -> [u8; REGISTER_BYTES] {
+    let mut bytes = [0; REGISTER_BYTES];
+    for (byte, value) in bytes.iter_mut().zip(0xA4..) {
+        *byte = value;
+    }
+    bytes
+}
+
+/// A snapshot made by hand: bank `n` has the filling of page `n`, on 48K as on 128K.
+fn snapshot(kind: Kind, paging: u8) -> Vec<u8> {
+    let bank = |number| (0..PAGE_BYTES).map(|offset| filling(number, offset)).collect::<Vec<u8>>();
+    let (registers, paged) = (register_bytes(), usize::from(paging & 7));
+    let mut file = registers[..27].to_vec();
+    match kind {
+        Kind::Spectrum48 => (0..3).for_each(|number| file.extend(bank(number))),
+        Kind::Spectrum128 => {
+            [5, 2, paged].iter().for_each(|&number| file.extend(bank(number)));
+            file.extend([registers[27], registers[28], paging, registers[29]]);
+            (0..8).filter(|&number| ![5, 2, paged].contains(&number)).for_each(|number| file.extend(bank(number)));
+        }
+    }
+    file
+}
+
+/// Both kinds, and on 128K every paged bank, both screens, either ROM, locked and not.
+fn snapshots() -> Vec<(Kind, u8)> {
+    let all = (0..64).chain([0xC5, 0xFA]).map(|paging| (Kind::Spectrum128, paging));
+    all.chain([(Kind::Spectrum48, 0)]).collect()
+}
+
+fn saved(m: &Machine, registers: &Registers) -> Vec<u8> {
+    let mut file = vec![0x55; m.sna_bytes()];
+    m.save_sna(&mut file, registers).unwrap();
+    file
+}
+
+#[test]
+fn registers_by_name() {
+    let bytes = register_bytes();
+    let z = Registers::from_bytes(&bytes);
+    assert_eq!(z.to_bytes(), bytes);
+    let word = |at: usize| u16::from_le_bytes([bytes[at], bytes[at + 1]]);
+    assert_eq!((z.i, z.r, z.iff, z.im, z.border, z.tr_dos), (bytes[0], bytes[20], bytes[19], bytes[25], bytes[26], bytes[29]));
+    assert_eq!([z.hl2, z.de2, z.bc2, z.af2, z.hl, z.de, z.bc], [1, 3, 5, 7, 9, 11, 13].map(word));
+    assert_eq!([z.iy, z.ix, z.af, z.sp, z.pc], [15, 17, 21, 23, 27].map(word));
+    assert!(z.iff2() && !Registers { iff: 0xFB, ..z }.iff2());
+    assert_eq!(Registers::default().to_bytes(), [0; REGISTER_BYTES]);
+}
+
+/// A start from a snapshot: RAM, paging, lock and border are the file's, all else is as after a start; and what is saved is the
+/// file again, but for the high bits of its border.
+#[test]
+fn started_from_snapshots() {
+    for (kind, paging) in snapshots() {
+        let (file, rom) = (snapshot(kind, paging), vec![0x55; kind.rom_bytes()]);
+        assert_eq!(file.len(), kind.sna_bytes(paging));
+        let (mut m, registers) = Machine::from_sna(kind, &rom, &file).unwrap();
+        let mut record = *started(kind).state();
+        record[17] = paging;
+        record[18] = 6;
+        record[19] = 6;
+        assert_eq!(*m.state(), record);
+        let mut bytes = register_bytes();
+        if kind == Kind::Spectrum48 {
+            bytes[27..].fill(0);
+        }
+        assert_eq!(registers.to_bytes(), bytes);
+        assert_eq!(ram(&m), (0..ram(&m).len()).map(|at| filling(at / PAGE_BYTES, at % PAGE_BYTES)).collect::<Vec<u8>>());
+        assert!(m.border().iter().chain(&m.shown_picture().unwrap()[..]).all(|&pixel| pixel == 0));
+        same(&m, 997);
+        let mut again = file.clone();
+        again[26] = 6;
+        assert_eq!(saved(&m, &registers), again);
+        assert_eq!(saved(&m, &Registers { border: 1, ..registers }), again);
+        if kind == Kind::Spectrum48 {
+            assert_eq!(saved(&m, &Registers { pc: 0x1234, tr_dos: 1, ..registers }), again);
+        } else {
+            assert_eq!(m.write_7ffd(paging ^ 1), Ok(if paging & 0x20 != 0 { 6 } else { 5 }));
+        }
+        assert_eq!(first_frames(&mut m), 6);
+    }
+}
+
+/// A snapshot into a machine that ran: nothing of what was there is left but ROM and devices, and the map is renewed.
+#[test]
+fn loaded_into_a_running_machine() {
+    for (kind, paging) in snapshots() {
+        let file = snapshot(kind, paging);
+        let mut m = filled(kind);
+        m.devices.tape = false;
+        m.write_7ffd(0x34).unwrap();
+        m.write_io(0x00FE, 5).unwrap();
+        m.wait(60000).unwrap();
+        m.wait(50000).unwrap();
+        m.write(0x4000, 0xEE).unwrap();
+        let registers = m.load_sna(&file).unwrap();
+        same(&m, 997);
+        let rom = if paging & 0x10 != 0 { 9 } else { 8 };
+        assert_eq!((m.byte(0x3FFF), m.devices.tape), (filling(rom, 0x3FFF), false));
+        let (fresh, first) = Machine::from_sna(kind, &vec![0; kind.rom_bytes()], &file).unwrap();
+        assert_eq!((registers, *m.state(), ram(&m)), (first, *fresh.state(), ram(&fresh)));
+        assert!(m.border().iter().chain(&m.shown_picture().unwrap()[..]).all(|&pixel| pixel == 0));
+    }
+}
+
+/// What was changed since, saved and loaded into another machine, is all there.
+#[test]
+fn saved_and_loaded() {
+    let mut m = filled(Kind::Spectrum128);
+    m.write_io(0x00FE, 3).unwrap();
+    m.write(0x5800, 0x47).unwrap();
+    let registers = Registers { pc: 0x8000, sp: 0xFF40, im: 1, iff: 4, ..Registers::default() };
+    for paging in [0x00, 0x02, 0x0D, 0x37] {
+        m.write_7ffd(paging).unwrap();
+        let file = saved(&m, &registers);
+        let (other, given) = Machine::from_sna(Kind::Spectrum128, &[0; 32768], &file).unwrap();
+        assert_eq!((given, ram(&other)), (Registers { border: 3, ..registers }, ram(&m)));
+        assert_eq!((other.read_7ffd(), other.state()[18]), (Ok(u32::from(paging)), 3));
+    }
+}
+
+/// Each refusal in its turn, and that it changes nothing.
+#[test]
+fn refused_snapshots() {
+    let rom = [vec![0; 16384], vec![0; 32768]];
+    let mut m = filled(Kind::Spectrum128);
+    m.write_7ffd(0x0B).unwrap();
+    m.write_io(0x00FE, 5).unwrap();
+    m.wait(60000).unwrap();
+    m.wait(20000).unwrap();
+    let before = seen(&m);
+    for (kind, paging) in snapshots() {
+        let (mut file, rom) = (snapshot(kind, paging), &rom[kind as usize]);
+        assert_eq!(m.start_sna(kind, &rom[1..], &file), Err(Refusal::BadLength));
+        for size in [0, 27, 49178, 49180, 49181, 49182, file.len() - 1, SNA_BYTES_128K, SNA_BYTES_128K_TWICE] {
+            let cut: Vec<u8> = file.iter().copied().chain([0]).cycle().take(size).collect();
+            if size != kind.sna_bytes(*cut.get(49181).unwrap_or(&0)) {
+                assert_eq!(m.start_sna(kind, rom, &cut), Err(Refusal::WrongSize));
+            }
+        }
+        file.push(0);
+        assert_eq!(m.start_sna(kind, rom, &file), Err(Refusal::WrongSize));
+        if kind == Kind::Spectrum128 && [2, 5].contains(&(paging & 7)) {
+            for at in [0, 8191, 16383] {
+                let mut unequal = snapshot(kind, paging);
+                unequal[27 + 2 * PAGE_BYTES + at] ^= 0x10;
+                assert_eq!(m.start_sna(kind, rom, &unequal), Err(Refusal::UnequalCopies));
+                assert_eq!(m.load_sna(&unequal), Err(Refusal::UnequalCopies));
+            }
+        }
+    }
+    assert_eq!(m.load_sna(&snapshot(Kind::Spectrum48, 0)), Err(Refusal::WrongSize));
+    for size in [0, SNA_BYTES_48K, m.sna_bytes() - 1, m.sna_bytes() + 1, SNA_BYTES_128K_TWICE] {
+        let mut file = vec![0x55; size];
+        assert_eq!(m.save_sna(&mut file, &Registers::default()), Err(Refusal::WrongSize));
+        assert!(file.iter().all(|&byte| byte == 0x55));
+    }
+    assert!(seen(&m) == before);
 }

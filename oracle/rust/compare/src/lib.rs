@@ -57,20 +57,47 @@ fn told(call: impl FnOnce(&mut [u8; 5]) -> u8) -> Answer {
 }
 
 impl Ours {
-    /// A fresh machine by the record of its start.
-    pub fn new(r: Record) -> Self {
-        let m = r.z as usize;
+    /// Buffers before a start, which has to write over all of them but ROM and devices.
+    fn blank(machine: u8, ay: u8) -> Self {
+        let m = machine as usize;
         let picture = vec![0x55; 49_152];
-        let mut ours = Ours {
-            machine: r.z as u8,
+        Ours {
+            machine,
             state: [0xAA; 23],
-            devices: devices(r.x),
+            devices: devices(ay),
             rom: vec![0; ROM_BYTES[m]],
             ram: vec![0x55; RAM_BYTES[m]],
             a: picture.clone(),
             b: picture,
             border: vec![0x55; 76_800],
-        };
+        }
+    }
+
+    /// A fresh machine from a snapshot.
+    pub fn imported(import: &Import) -> Self {
+        let mut ours = Ours::blank(import.machine, import.ay);
+        ours.import(import);
+        ours
+    }
+
+    /// An import into the buffers as they stand, of a machine that may have run; ROM and devices are as after a start.
+    pub fn import(&mut self, import: &Import) {
+        (self.rom, self.devices) = (vec![0; self.rom.len()], devices(import.ay));
+        let mut handed = [0x55; REGISTERS];
+        let Ours { state, ram, a, b, border, .. } = self;
+        let refusal = c::load_sna(state, ram, &import.file(), &mut handed, a, b, border, import.machine as u32);
+        assert_eq!(0, refusal);
+        let mut registers = import.registers();
+        registers[26] = import.border;
+        if import.machine == 0 {
+            registers[27..].fill(0);
+        }
+        assert_eq!(registers, handed, "the registers are the file's");
+    }
+
+    /// A fresh machine by the record of its start.
+    pub fn new(r: Record) -> Self {
+        let mut ours = Ours::blank(r.z as u8, r.x);
         let Ours { state, ram, a, b, border, .. } = &mut ours;
         let refusal = match r.op {
             PLAIN_START => c::start(state, ram, a, b, border, r.z),
@@ -141,6 +168,11 @@ impl Ours {
             b's' => {
                 let mut file = vec![0x55; SCREEN_FILE];
                 assert_eq!(0, c::save_scr(&self.state, &self.ram, &mut file));
+                Answer::Number(digest(file.into_iter()))
+            }
+            b'x' => {
+                let mut file = vec![0x55; snapshot_bytes(self.machine, self.state[17])];
+                assert_eq!(0, c::save_sna(&self.state, &self.ram, &mut file, &registers(r.z)));
                 Answer::Number(digest(file.into_iter()))
             }
             b'R' => {

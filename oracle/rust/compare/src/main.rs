@@ -1,7 +1,7 @@
 //! compare [SECONDS [SEED]]: the original and our library side by side, call by call, each answer compared; pictures,
-//! border and RAM compared whole at every frame's end and every 64 calls. First calls at every clock of a frame and
-//! from every start, then random histories. Where they differ it prints the shortest script that it finds and stops
-//! with status 1.
+//! border and RAM compared whole at every frame's end and every 64 calls. First calls at every clock of a frame, from
+//! every start and from snapshots, then random histories. Where they differ it prints the shortest script that it finds
+//! and stops with status 1.
 use compare::{plain_start, Ours};
 use play::random::{self, Rng};
 use play::script::*;
@@ -50,7 +50,8 @@ const SET_CLOCK: u8 = b'X';
 
 impl Pair {
     fn new(start: Record) -> Pair {
-        Pair { rust: play::start(start), ours: Ours::new(start), since: vec![start], t: Tally::default() }
+        let ours = Import::of(start).map_or_else(|| Ours::new(start), |import| Ours::imported(&import));
+        Pair { rust: play::start(start), ours, since: vec![start], t: Tally::default() }
     }
 
     fn whole(&mut self) -> Result<(), String> {
@@ -78,6 +79,12 @@ impl Pair {
                 return Ok(());
             }
             _ => {}
+        }
+        if let Some(import) = Import::of(r) {
+            self.rust = play::start(r);
+            self.ours.import(&import);
+            self.t.calls += 1;
+            return self.whole();
         }
         let (rust, ours) = (self.rust.play(r), self.ours.play(r));
         self.t.calls += 1;
@@ -115,6 +122,12 @@ impl Pair {
     fn screen_file(&mut self, page: u8, seed: u32) -> Result<(), String> {
         self.step(record(b'l', page, 0, seed))?;
         self.play(record(b's', 0, 0, 0))
+    }
+
+    /// A second start, from a snapshot, and the ROM for it.
+    fn import(&mut self, import: Import) -> Result<(), String> {
+        self.step(import.record())?;
+        self.step(record(b'R', 0, 0, import.seed))
     }
 
     fn step(&mut self, r: Record) -> Result<(), String> {
@@ -181,15 +194,24 @@ fn timed_kinds() -> Vec<Record> {
     kinds
 }
 
-/// A machine with full pages.
-fn full(start: Record, paging: u8, seed: u32) -> Pair {
+fn begun(start: Record, then: impl Iterator<Item = Record>) -> Pair {
     let mut pair = Pair::new(start);
-    let pages = (0..RAM_BYTES[start.z as usize] / 16_384).map(|p| record(b'L', p as u8, 0, seed + p as u32));
-    for r in pages.chain([record(b'R', 0, 0, seed), record(b'7', paging, 0, 0)]) {
-        let loaded = pair.step(r);
-        or_stop(&pair, loaded);
+    for r in then {
+        let went = pair.step(r);
+        or_stop(&pair, went);
     }
     pair
+}
+
+/// A machine with full pages.
+fn full(start: Record, paging: u8, seed: u32) -> Pair {
+    let pages = (0..RAM_BYTES[start.z as usize] / 16_384).map(|p| record(b'L', p as u8, 0, seed + p as u32));
+    begun(start, pages.chain([record(b'R', 0, 0, seed), record(b'7', paging, 0, 0)]))
+}
+
+/// The same from a snapshot, which fills them.
+fn from_snapshot(import: Import) -> Pair {
+    begun(import.record(), [record(b'R', 0, 0, import.seed)].into_iter())
 }
 
 /// A call begun at every clock of a frame. The clock only rises in a frame, so it takes a frame for each remainder by 17.
@@ -293,6 +315,49 @@ fn every_start() -> Tally {
     total
 }
 
+/// What an import leaves, and what becomes of it: bytes at each block, stills, the file saved again; then, in the picture,
+/// a border write and both writes of 7FFD, which a locked byte does not let through; two frames, and the file saved once more.
+fn after_an_import(machine: u8, seed: u32) -> Vec<Record> {
+    let frame = FRAME[machine as usize] as u32;
+    let mut script: Vec<Record> = [0x0000, 0x4000, 0x8000, 0xC000, 0xFFFF].map(|at| record(b'G', 0, at, 0)).into();
+    script.extend([record(b'K', 0, 0, 0), record(b'x', 0, 0, seed), record(b'N', 0, 0, 20_000 + seed % 30_000)]);
+    script.extend([record(b'W', seed as u8, 0x00FE, 0), record(b'P', !seed as u8, 0xC000, 0)]);
+    script.extend([record(b'W', seed as u8 ^ 0x0F, 0x7FFD, 0), record(b'7', seed as u8 ^ 0x1A, 0, 0)]);
+    for clock in [frame - 1, frame - 1] {
+        script.extend([record(SET_CLOCK, 0, 0, clock), record(b'N', 0, 0, 1)]);
+    }
+    script.push(record(b'x', 0, 0, !seed));
+    script
+}
+
+/// An import of each 7FFD byte, and of each colour on 48K, first into new buffers and then over what ran.
+fn every_import() -> Tally {
+    let mut total = Tally::default();
+    for number in 0..264 {
+        let (machine, paging) = if number < 8 { (0, 0) } else { (1, (number - 8) as u8) };
+        let import = || Import { machine, ay: 0, paging, border: (number * 37 % 256) as u8, seed: 7000 + 9 * number };
+        let mut pair = from_snapshot(import());
+        let begun = pair.look().and_then(|()| pair.whole());
+        or_stop(&pair, begun);
+        for r in after_an_import(machine, number) {
+            let went = pair.step(r);
+            or_stop(&pair, went);
+        }
+        let again = pair.import(Import { border: !import().border, seed: number, ..import() });
+        let went = again.and_then(|()| after_an_import(machine, !number).into_iter().try_for_each(|r| pair.step(r)));
+        or_stop(&pair, went);
+        total.add(pair.t);
+    }
+    total
+}
+
+/// A snapshot with any bank paged, one in four of them locked.
+fn random_import(r: &mut Rng, machine: u8, ay: u8) -> Import {
+    let lock = if r.chance(4) { 0x20 } else { 0 };
+    let paging = if machine == 0 { 0 } else { r.byte() & 0xDF | lock };
+    Import { machine, ay, paging, border: r.byte(), seed: r.next() as u32 >> 1 }
+}
+
 /// For a screen file: mostly a video page, now and then any, or one that there is not.
 fn random_page(r: &mut Rng, machine: u8) -> u8 {
     match (r.chance(4), machine) {
@@ -302,8 +367,8 @@ fn random_page(r: &mut Rng, machine: u8) -> u8 {
     }
 }
 
-/// Mostly as the original starts by itself; one in four with another colour than white, and a quarter of these by the
-/// start that takes none.
+/// Where it is no snapshot: mostly as the original starts by itself; one in four with another colour than white, and a
+/// quarter of these by the start that takes none.
 fn random_start(r: &mut Rng, machine: u8, ay: u8) -> Record {
     match r.below(16) {
         0 => plain_start(machine, ay),
@@ -312,11 +377,16 @@ fn random_start(r: &mut Rng, machine: u8, ay: u8) -> Record {
     }
 }
 
-/// A random history, and its start. Every fourth goes to sound states that no history from a start reaches.
+/// A random history, and its start: one in three from a snapshot. Every fourth goes to sound states that no history from a
+/// start reaches.
 fn history(seed: u64, calls: usize) -> (Record, Tally) {
     let mut r = Rng(seed.wrapping_mul(0x0123_4567_89AB_CDEF) ^ 0x2468);
     let (machine, ay, lengths) = ((seed % 2) as u8, (seed / 2 % 2) as u8, (seed / 4 % 4) as u8);
-    let mut pair = full(random_start(&mut r, machine, ay), 0, r.next() as u32 >> 1);
+    let mut pair = if r.chance(3) {
+        from_snapshot(random_import(&mut r, machine, ay))
+    } else {
+        full(random_start(&mut r, machine, ay), 0, r.next() as u32 >> 1)
+    };
     let locks = r.chance(2);
     // half of them wait first, so that the beam paints in the start's colour before a write takes another
     if r.chance(2) {
@@ -328,7 +398,15 @@ fn history(seed: u64, calls: usize) -> (Record, Tally) {
             let went = pair.step(record(JUMP, 0, 0, r.next() as u32));
             or_stop(&pair, went);
         }
-        // the stored script has no screen files, so they come here
+        // the stored script has no snapshots and no screen files, so they come here
+        if r.chance(1024) {
+            let went = pair.import(random_import(&mut r, machine, ay));
+            or_stop(&pair, went);
+        }
+        if r.chance(96) {
+            let went = pair.step(record(b'x', 0, 0, r.next() as u32));
+            or_stop(&pair, went);
+        }
         if r.chance(48) {
             let went = pair.screen_file(random_page(&mut r, machine), r.next() as u32 >> 1);
             or_stop(&pair, went);
@@ -361,14 +439,23 @@ fn main() {
     let starts = every_start();
     println!("every start: {starts}");
     total.add(starts);
-    let (began, mut histories, mut coloured, mut random) = (Instant::now(), 0, 0, Tally::default());
+    let imports = every_import();
+    println!("every import: {imports}");
+    total.add(imports);
+    let (began, mut histories, mut random) = (Instant::now(), 0, Tally::default());
+    let (mut imported, mut coloured) = (0, 0);
     while began.elapsed() < Duration::from_secs(seconds) {
         let (start, tally) = history((seed << 32) + histories, 4096);
         random.add(tally);
         histories += 1;
-        coloured += (start.y != WHITE as u16) as u64;
+        match Import::of(start) {
+            Some(_) => imported += 1,
+            None => coloured += (start.y != WHITE as u16) as u64,
+        }
     }
-    println!("{histories} random histories, {coloured} from another colour than white: {random}");
+    println!(
+        "{histories} random histories, {imported} from a snapshot, {coloured} from another colour than white: {random}"
+    );
     total.add(random);
     println!("no difference in {total}");
 }

@@ -9,7 +9,7 @@ pub mod noay {
     use core_noay as core_x;
     include!("rust_side.rs");
 }
-use script::{Answer, Record};
+use script::{Answer, Import, Record};
 
 /// A sound state that no history from a start need reach, and the clocks by which the original is brought there.
 #[derive(Clone, Copy, Debug)]
@@ -39,6 +39,12 @@ pub trait Side {
 
 /// A fresh machine of the original by the record of its start, from the build with or without the AY.
 pub fn start(r: Record) -> Box<dyn Side> {
+    if let Some(import) = Import::of(r) {
+        return match import.ay {
+            0 => Box::new(noay::RustSide::imported(&import)),
+            _ => Box::new(ay::RustSide::imported(&import)),
+        };
+    }
     let (machine, colour) = (r.z as u8, u8::try_from(r.y).expect("a colour"));
     match r.x {
         0 => Box::new(noay::RustSide::new(machine, colour)),

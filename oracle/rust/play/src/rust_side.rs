@@ -39,6 +39,18 @@ impl RustSide {
         RustSide { m, machine, devices: devices(door::AY as u8) }
     }
 
+    /// Snapshots are our addition: to the original an import is its own start and then, before any time passes, its own
+    /// load of each page with the refresh, its 7FFD write, which locks where the byte says so, and its border call.
+    pub fn imported(import: &Import) -> Self {
+        let mut side = RustSide::new(import.machine, WHITE);
+        for page in 0..(RAM_BYTES[import.machine as usize] / 16_384) as u8 {
+            side.m.door.load_page(page, &import.page(page));
+        }
+        side.m.door.write_7ffd(import.paging);
+        side.m.door.set_border_at(0, import.border & 7);
+        side
+    }
+
     /// A timed call: what it answers, and what is seen of it from outside.
     fn timed(&mut self, call: impl FnOnce(&mut Watched) -> u32) -> Answer {
         let blocks = |m: &Watched| (m.plane(0).sets.get() + m.plane(1).sets.get()) / 8;
@@ -149,6 +161,13 @@ impl RustSide {
         digest(self.m.door.ram_page(shown).iter().copied().take(SCREEN_FILE))
     }
 
+    /// And what an export writes is what the original tells of itself: its pages, its 7FFD byte and its border.
+    fn save_snapshot(&self, seed: u32) -> u32 {
+        let door = &self.m.door;
+        let page = |page| door.ram_page(page).to_vec();
+        digest(snapshot(self.machine, registers(seed), door.border_color(), door.read_7ffd(), page).into_iter())
+    }
+
     fn digests(&self) -> Answer {
         let plane = |i| digest(self.m.plane(i).pixels.iter().map(|p| p.get()));
         Answer::Digests([plane(0), plane(1), plane(2), digest(self.ram().into_iter())])
@@ -202,6 +221,7 @@ impl Side for RustSide {
             },
             b'l' => self.load_screen(r.x, r.z),
             b's' => Answer::Number(self.save_screen()),
+            b'x' => Answer::Number(self.save_snapshot(r.z)),
             b'R' => self.load_rom(r.z),
             b'Q' => or_refused(7, || self.ram_page(r.x)),
             b'B' => or_refused(8, || self.block(r.x as usize)),

@@ -21,6 +21,79 @@ pub fn start(machine: u8, ay: u8, colour: u8) -> Record {
     record(b'S', ay, colour as u16, machine as u32)
 }
 
+/// A start from a snapshot, which the stored script does not have: what the file holds.
+pub struct Import {
+    pub machine: u8,
+    pub ay: u8,
+    pub paging: u8,
+    /// Byte 26 of the header, whose low three bits are the border's colour.
+    pub border: u8,
+    pub seed: u32,
+}
+
+const IMPORT: u8 = b'i';
+
+impl Import {
+    pub fn record(&self) -> Record {
+        let y = self.border as u16 | (self.ay as u16) << 8 | (self.machine as u16) << 9;
+        record(IMPORT, self.paging, y, self.seed)
+    }
+
+    pub fn of(r: Record) -> Option<Import> {
+        let (border, ay, machine) = (r.y as u8, (r.y >> 8 & 1) as u8, (r.y >> 9 & 1) as u8);
+        (r.op == IMPORT).then_some(Import { machine, ay, paging: r.x, border, seed: r.z })
+    }
+
+    pub fn page(&self, page: u8) -> Vec<u8> {
+        filling(self.seed.wrapping_add(page as u32), 16_384)
+    }
+
+    pub fn registers(&self) -> [u8; REGISTERS] {
+        registers(self.seed)
+    }
+
+    pub fn file(&self) -> Vec<u8> {
+        snapshot(self.machine, self.registers(), self.border, self.paging, |page| self.page(page))
+    }
+}
+
+/// What a snapshot has for the Z80, from a seed: 27 header bytes, PC and the TR-DOS byte.
+pub fn registers(seed: u32) -> [u8; REGISTERS] {
+    filling(!seed, REGISTERS).try_into().expect("as many")
+}
+
+/// The size that is due for a machine and its 7FFD byte: bank 5 or 2 stands twice if it is the paged one.
+pub fn snapshot_bytes(machine: u8, paging: u8) -> usize {
+    match (machine, paging & 7) {
+        (0, _) => 49_179,
+        (_, 2 | 5) => 147_487,
+        _ => 131_103,
+    }
+}
+
+/// A snapshot by request Q-4's words: the header with the border in byte 26; then RAM from 4000h, or banks 5, 2 and the
+/// paged one, PC, the 7FFD byte, the TR-DOS byte and the remaining banks in rising order.
+pub fn snapshot(
+    machine: u8,
+    registers: [u8; REGISTERS],
+    border: u8,
+    paging: u8,
+    page: impl Fn(u8) -> Vec<u8>,
+) -> Vec<u8> {
+    let mut file = registers[..26].to_vec();
+    file.push(border);
+    if machine == 0 {
+        (0..3).for_each(|bank| file.extend(page(bank)));
+    } else {
+        let first = [5, 2, paging & 7];
+        first.iter().for_each(|&bank| file.extend(page(bank)));
+        file.extend([registers[27], registers[28], paging, registers[29]]);
+        (0..8).filter(|bank| !first.contains(bank)).for_each(|bank| file.extend(page(bank)));
+    }
+    assert_eq!(file.len(), snapshot_bytes(machine, paging));
+    file
+}
+
 impl Record {
     pub fn encode(self) -> [u8; 8] {
         let ([y0, y1], [z0, z1, z2, z3]) = (self.y.to_le_bytes(), self.z.to_le_bytes());
@@ -93,4 +166,5 @@ pub fn devices(ay: u8) -> [u8; 35] {
 pub const RAM_BYTES: [usize; 2] = [49_152, 131_072];
 pub const ROM_BYTES: [usize; 2] = [16_384, 32_768];
 pub const SCREEN_FILE: usize = 6_912;
+pub const REGISTERS: usize = 30;
 pub const FRAME: [usize; 2] = [69_888, 70_908];
