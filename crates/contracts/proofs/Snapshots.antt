@@ -2,32 +2,31 @@
 -- import gives the file back but for bits 3..7 of byte 26"; and where an import is refused with 10 and with 11.
 -- Assumes nothing.
 use Prim.Native.Nat.{ℕ, _≤_, _<_, _^_}
-use mathlib.Core.Bool.{Bool, true, false, false≢true, not, _&&_}
+use mathlib.Core.Bool.{Bool, true, false, not, _&&_}
 use mathlib.Core.List.{List, [], _∷_, _++_}
-use mathlib.Core.Path.{_≡_, refl, sym, ap, subst, _∙_}
+use mathlib.Core.Path.{_≡_, refl, sym, ap, _∙_}
 use native.Mathlib.Omega.{arith}
 use lib.Dec.{eqb, ltb}
 use lib.ListN.{length, take, drop}
 use borrow.Author.Tests.{eq-eqb, ne-eqb, eqb-true, eqb-false, le-ltb, ltb-false, not-false}
-use Rattle.laws.proofs.Cases.{and-both}
 use Rattle.machine.specs.declared.ZXMachine.{ZXMachine}
 use Rattle.machine.specs.declared.ZXMachine.the-variants.{Sinclair48K, Sinclair128K}
 use Rattle.machine.specs.Numbers.{specsOf}
 use Rattle.record.specs.declared.Bus.{Bus}
 use Rattle.record.specs.declared.Held.the-variants as held
 use Rattle.record.specs.Words.{Bytes}
-use Rattle.record.specs.Record.{recordOf, recordBytes, heldBy, soundBus, machineNumber, machineOf, freshRecord}
+use Rattle.record.specs.Record.{recordOf, recordBytes, heldBy, machineNumber, machineOf, freshRecord}
 use Rattle.record.specs.Sound.{Sound}
 use Rattle.record.proofs.Soundness.{facts-sound}
-use Rattle.record.proofs.Round.{held-encode, decode-encode-sound}
+use Rattle.record.proofs.Round.{held-encode}
 use Rattle.snapshot.specs.File.{headerLength, borderAt, pagingIn, borderIn, dueSize, ramIn, copiesDiffer}
 use Rattle.snapshot.specs.Kept.{registersLength, registersIn, snapshotRecord, headerOf, snapshotFile}
 use Rattle.snapshot.proofs.Round.{length-ram, length-registers, length-file, paging-back, border-back, ram-back, copies-agree, keptThree, registers-back, file-back}
 use Rattle.bus.specs.World.{beginning}
 use Rattle.judgement.specs.declared.Refusal.the-variants.{BadMachine, BadLength, WrongSize, UnequalCopies}
 use Rattle.judgement.specs.declared.Verdict.the-variants.{Accepted}
-use Rattle.judgement.specs.Refusals.{Cause, cause, judged}
-use Rattle.judgement.specs.Judges.{ramFits, startFits, judgeLoadSna, judgeSaveSna}
+use Rattle.judgement.specs.Refusals.{cause, judged}
+use Rattle.judgement.specs.Judges.{startFits, judgeLoadSna, judgeSaveSna}
 use Rattle.judgement.specs.Ready.{ReadySaveSna}
 use Rattle.judgement.proofs.Order.{load-sna-ordered, save-sna-ordered}
 use Rattle.judgement.proofs.Accepted.{ready-save-sna}

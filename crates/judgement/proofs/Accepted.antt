@@ -8,8 +8,9 @@ use native.Mathlib.Omega.{arith}
 use borrow.Author.Tests.{eqb-true, eqb-false, ltb-false, not-false}
 use lib.Dec.{eqb}
 use lib.ListN.{length}
-use Rattle.laws.proofs.Cases.{and-both}
+use Rattle.laws.proofs.Cases.{and-left, and-right, and-both}
 use Rattle.laws.proofs.Conjunction.{each}
+use Rattle.machine.specs.declared.ZXMachine.{ZXMachine}
 use Rattle.machine.specs.Numbers.{specsOf}
 use Rattle.machine.specs.Limits.{pictureLength, borderLength, pageLength, longestWait}
 use Rattle.record.specs.declared.Bus.{Bus}
@@ -28,7 +29,7 @@ use Rattle.judgement.specs.declared.Verdict.the-variants.{Accepted}
 use Rattle.judgement.specs.Refusals.{Cause, judgedHeld, judge}
 use Rattle.judgement.specs.Judges.{ramFits, romFits, pictureFits, borderFits, timedFits, numberFits, lentFit, startFits, judgeStart, judgeWait, judgePort, judgeState, judgeTold, judgeRead, judgeWrite, judgeLoad, judgeRamPage, judgeBlock, judgeShown, judgeStill, judgeSaveScr, judgeLoadScr, judgeLoadSna, judgeSaveSna}
 use Rattle.judgement.specs.Order.{NoneHolds}
-use Rattle.judgement.specs.Ready.{OnRecord, Fit, ReadyStart, ReadyWait, ReadyPort, ReadyTold, ReadyRead, ReadyWrite, ReadyLoad, ReadyRamPage, ReadyBlock, ReadyShown, ReadyStill, ReadySaveScr, ReadyLoadScr, ReadyLoadSna, ReadySaveSna}
+use Rattle.judgement.specs.Ready.{OnRecord, Fit, StartFit, ReadyStart, ReadyWait, ReadyPort, ReadyTold, ReadyRead, ReadyWrite, ReadyLoad, ReadyRamPage, ReadyBlock, ReadyShown, ReadyStill, ReadySaveScr, ReadyLoadScr, ReadyLoadSna, ReadySaveSna}
 use Rattle.judgement.specs.Answers.{timedLength, numberLength}
 use Rattle.judgement.proofs.Judging.{never}
 use Rattle.judgement.proofs.Order.{accepted-by-none, start-colour-ordered, load-sna-ordered}
@@ -69,20 +70,26 @@ fits bus ram a b border answer e =
 has-room : (bus : Bus) → bus .passed ≤ lastFrame → noRoom (bus .passed) ≡ false → HasRoom (bus .passed)
 has-room bus h e = let n = eqb-false (bus .passed) lastFrame e in omega (arith, h, n)
 
--- ---- every judgement
-pub ready-start : (state ram a b border machine colour : ℕ) (bus : Bus) → judgeStart state ram a b border machine colour ≡ Accepted bus
-    → ReadyStart state ram a b border machine colour bus
-ready-start state ram a b border machine colour bus p =
-    let m = machineOf machine in
-    let r = start-colour-ordered state ram a b border machine colour .acceptedByNone bus p in
-    let test = each (eqb state recordLength) (eqb ram (specsOf m .ram) ∷ pictureFits a ∷ pictureFits b ∷ borderFits border ∷ []) (not-false (startFits m state ram a b border) (r .0 .1 .0)) in
+-- the slices of a start
+start-fit : (m : ZXMachine) (state ram a b border : ℕ) → startFits m state ram a b border ≡ true → StartFit m state ram a b border
+start-fit m state ram a b border e =
+    let test = each (eqb state recordLength) (eqb ram (specsOf m .ram) ∷ pictureFits a ∷ pictureFits b ∷ borderFits border ∷ []) e in
     record {
-      known = ltb-false 1 machine (r .0 .0);
       stateIs = eqb-true state recordLength (test 0);
       ramIs = eqb-true ram (specsOf m .ram) (test 1);
       aIs = eqb-true a pictureLength (test 2);
       bIs = eqb-true b pictureLength (test 3);
       borderIs = eqb-true border borderLength (test 4);
+    }
+
+-- ---- every judgement
+pub ready-start : (state ram a b border machine colour : ℕ) (bus : Bus) → judgeStart state ram a b border machine colour ≡ Accepted bus
+    → ReadyStart state ram a b border machine colour bus
+ready-start state ram a b border machine colour bus p =
+    let r = start-colour-ordered state ram a b border machine colour .acceptedByNone bus p in
+    record {
+      known = ltb-false 1 machine (r .0 .0);
+      fit = start-fit (machineOf machine) state ram a b border (not-false (startFits (machineOf machine) state ram a b border) (r .0 .1 .0));
       colourIn = ltb-false 7 colour (r .0 .1 .1 .0);
       writes = r .1;
     }
@@ -92,16 +99,12 @@ pub ready-load-sna : (state ram registers a b border machine : ℕ) (file : List
 ready-load-sna state ram registers a b border machine file bus p =
     let m = machineOf machine in
     let r = load-sna-ordered state ram registers a b border machine file .acceptedByNone bus p in
-    let test = each (eqb state recordLength) (eqb ram (specsOf m .ram) ∷ pictureFits a ∷ pictureFits b ∷ borderFits border ∷ eqb registers registersLength ∷ [])
-    (not-false (startFits m state ram a b border && eqb registers registersLength) (r .0 .1 .0)) in
+    let fits = startFits m state ram a b border in
+    let test = not-false (fits && eqb registers registersLength) (r .0 .1 .0) in
     record {
       known = ltb-false 1 machine (r .0 .0);
-      stateIs = eqb-true state recordLength (test 0);
-      ramIs = eqb-true ram (specsOf m .ram) (test 1);
-      aIs = eqb-true a pictureLength (test 2);
-      bIs = eqb-true b pictureLength (test 3);
-      borderIs = eqb-true border borderLength (test 4);
-      registersIs = eqb-true registers registersLength (test 5);
+      fit = start-fit m state ram a b border (and-left fits (eqb registers registersLength) test);
+      registersIs = eqb-true registers registersLength (and-right fits (eqb registers registersLength) test);
       fileIs = eqb-true (length file) (dueSize m (pagingIn m file)) (not-false _ (r .0 .1 .1 .0));
       copiesEqual = r .0 .1 .1 .1 .0;
       writes = r .1;

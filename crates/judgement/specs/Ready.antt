@@ -5,6 +5,7 @@ use mathlib.Core.Path.{_≡_}
 use mathlib.Core.Bool.{Bool, true, false}
 use mathlib.Core.List.{List}
 use lib.ListN.{length}
+use Rattle.machine.specs.declared.ZXMachine.{ZXMachine}
 use Rattle.machine.specs.Numbers.{specsOf}
 use Rattle.machine.specs.Limits.{pictureLength, borderLength, pageLength, longestWait}
 use Rattle.record.specs.declared.Bus.{Bus}
@@ -18,14 +19,18 @@ use Rattle.snapshot.specs.File.{dueSize, pagingIn, copiesDiffer}
 use Rattle.snapshot.specs.Kept.{registersLength, snapshotRecord}
 use Rattle.judgement.specs.Answers.{timedLength, numberLength}
 
--- a start's machine is one that there is, its slices have that machine's lengths, its colour is one of the eight, and this is the record to write
-pub record ReadyStart (state ram a b border machine colour : ℕ) (bus : Bus) : Type 0 where
-  pub known : machine ≤ 1
+-- the slices of a start, and of an import, have their machine's lengths
+pub record StartFit (m : ZXMachine) (state ram a b border : ℕ) : Type 0 where
   pub stateIs : state ≡ recordLength
-  pub ramIs : ram ≡ specsOf (machineOf machine) .ram
+  pub ramIs : ram ≡ specsOf m .ram
   pub aIs : a ≡ pictureLength
   pub bIs : b ≡ pictureLength
   pub borderIs : border ≡ borderLength
+
+-- a start's machine is one that there is, its slices fit, its colour is one of the eight, and this is the record to write
+pub record ReadyStart (state ram a b border machine colour : ℕ) (bus : Bus) : Type 0 where
+  pub known : machine ≤ 1
+  pub fit : StartFit (machineOf machine) state ram a b border
   pub colourIn : colour ≤ 7
   pub writes : bus ≡ startRecord (machineOf machine) colour
 
@@ -117,12 +122,8 @@ pub record ReadyLoadScr (state : List ℕ) (ram file page : ℕ) (bus : Bus) : T
 -- an import's file has the size that is due, and its copies are equal; this is the record to write
 pub record ReadyLoadSna (state ram registers a b border machine : ℕ) (file : List ℕ) (bus : Bus) : Type 0 where
   pub known : machine ≤ 1
-  pub stateIs : state ≡ recordLength
-  pub ramIs : ram ≡ specsOf (machineOf machine) .ram
+  pub fit : StartFit (machineOf machine) state ram a b border
   pub registersIs : registers ≡ registersLength
-  pub aIs : a ≡ pictureLength
-  pub bIs : b ≡ pictureLength
-  pub borderIs : border ≡ borderLength
   pub fileIs : length file ≡ dueSize (machineOf machine) (pagingIn (machineOf machine) file)
   pub copiesEqual : copiesDiffer (machineOf machine) file ≡ false
   pub writes : bus ≡ snapshotRecord (machineOf machine) file

@@ -12,7 +12,7 @@ use Rattle.laws.proofs.Conjunction.{each}
 use Rattle.machine.specs.declared.ZXMachine.{ZXMachine}
 use Rattle.machine.specs.declared.ZXMachine.the-variants.{Sinclair48K, Sinclair128K}
 use Rattle.machine.specs.Numbers.{specsOf}
-use Rattle.machine.specs.Timing.{blocksAt, blockPosition, borderAt, borderPosition, frameEnd}
+use Rattle.machine.specs.Timing.{blockPosition, borderPosition, frameEnd}
 use Rattle.machine.proofs.Numbered.{regular}
 use Rattle.record.specs.declared.Bus.{Bus}
 use Rattle.record.specs.Record.{lastFrame, clockInFrame, paintedInPlace, pairsInPlace, blockedAtEnd, pagingAllowed, soundBus, freshRecord, startRecord}

@@ -9,7 +9,7 @@ use Rattle.machine.specs.Numbers.{specsOf}
 use Rattle.record.specs.declared.Bus.{Bus}
 use Rattle.record.specs.Record.{recordBytes, recordLength, machineOf}
 use Rattle.snapshot.specs.File.{dueSize, pagingIn, ramIn}
-use Rattle.snapshot.specs.Kept.{registersLength, registersIn, snapshotRecord}
+use Rattle.snapshot.specs.Kept.{registersLength, registersIn}
 use Rattle.judgement.specs.declared.Refusal.{Refusal}
 use Rattle.judgement.specs.declared.Verdict.{Verdict}
 use Rattle.judgement.specs.declared.Verdict.the-variants.{Refused, Accepted}
@@ -41,7 +41,7 @@ module _ (l : Lent) (file registers : List ℕ) (machine : ℕ) (v : Verdict) (j
 
     pub import-lengths : Lengths (bus .machine) file (length (l .state)) (length (l .ram)) (length registers)
     import-lengths =
-        rw its-machine (record { fileIs = ready .fileIs; stateIs = ready .stateIs; ramIs = ready .ramIs; registersIs = ready .registersIs })
+        rw its-machine (record { fileIs = ready .fileIs; stateIs = ready .fit .stateIs; ramIs = ready .fit .ramIs; registersIs = ready .registersIs })
 
     pub import-accepted : (state ram filled a b border : List ℕ) → state ≡ recordBytes bus → ram ≡ ramIn (bus .machine) file
         → filled ≡ registersIn (bus .machine) file → a ≡ replicate (length (l .a)) 0 → b ≡ replicate (length (l .b)) 0 → border ≡ replicate (length (l .border)) 0
@@ -50,7 +50,7 @@ module _ (l : Lent) (file registers : List ℕ) (machine : ℕ) (v : Verdict) (j
     import-accepted state ram filled a b border e er eg ea eb ed =
         let cr = er ∙ ap (λ (m : ZXMachine). ramIn m file) its-machine in
         let cg = eg ∙ ap (λ (m : ZXMachine). registersIn m file) its-machine in
-        let ca = ea ∙ picture-cleared (length (l .a)) (ready .aIs) in
-        let cb = eb ∙ picture-cleared (length (l .b)) (ready .bIs) in
-        let cd = ed ∙ border-cleared (length (l .border)) (ready .borderIs) in
+        let ca = ea ∙ picture-cleared (length (l .a)) (ready .fit .aIs) in
+        let cb = eb ∙ picture-cleared (length (l .b)) (ready .fit .bIs) in
+        let cd = ed ∙ border-cleared (length (l .border)) (ready .fit .borderIs) in
         rw (← judged, p, e, ready .writes, cr, cg, ca, cb, cd)

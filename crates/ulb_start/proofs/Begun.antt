@@ -25,8 +25,8 @@ module _ (l : Lent) (machine colour : ℕ) (v : Verdict) (judged : v ≡ judgeSt
   unfolding startColour begun
   start-accepted state ram a b border bus p e er ea eb ed =
       let n = ready-start (length (l .state)) (length (l .ram)) (length (l .a)) (length (l .b)) (length (l .border)) machine colour bus (rw (← judged, p)) in
-      let cr = er ∙ ram-cleared (machineOf machine) (length (l .ram)) (n .ramIs) in
-      let ca = ea ∙ picture-cleared (length (l .a)) (n .aIs) in
-      let cb = eb ∙ picture-cleared (length (l .b)) (n .bIs) in
-      let cd = ed ∙ border-cleared (length (l .border)) (n .borderIs) in
+      let cr = er ∙ ram-cleared (machineOf machine) (length (l .ram)) (n .fit .ramIs) in
+      let ca = ea ∙ picture-cleared (length (l .a)) (n .fit .aIs) in
+      let cb = eb ∙ picture-cleared (length (l .b)) (n .fit .bIs) in
+      let cd = ed ∙ border-cleared (length (l .border)) (n .fit .borderIs) in
       rw (← judged, p, e, n .writes, cr, ca, cb, cd)

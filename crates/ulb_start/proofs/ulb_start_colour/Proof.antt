@@ -35,7 +35,7 @@ clear-requires-4 c κs = search needs
 
 encode-requires : tie.Need-encode-requires
 encode-requires c κs =
-    ready-start _ _ _ _ _ _ _ _ (sym (c .before .before .before .before .before .before .before .before .before .before .before .before .before .before .before .before .before .before .before .before .judge-start .ensures) ∙ c .before .before .before .before .before .before .before .before .before .before .before .before .before .before .before .before .before .before .v2 .given .1) .stateIs
+    ready-start _ _ _ _ _ _ _ _ (sym (c .before .before .before .before .before .before .before .before .before .before .before .before .before .before .before .before .before .before .before .before .judge-start .ensures) ∙ c .before .before .before .before .before .before .before .before .before .before .before .before .before .before .before .before .before .before .v2 .given .1) .fit .stateIs
 
 returns : tie.Need-returns
 returns c =
