@@ -4,6 +4,7 @@ use Prim.Native.Nat.{ℕ, zero, suc, _+_, _-_, _%_, _≤_, _<_}
 use mathlib.Core.Bool.{Bool, true, false, false≢true, cond, not, _&&_, _||_}
 use mathlib.Core.Path.{_≡_, refl, sym, ap, _∙_}
 use mathlib.Core.List.{List, [], _∷_, map}
+use native.Mathlib.Nat.{not-suc-le-zero, le-of-suc-le-suc}
 use native.Mathlib.Numerals.{add-one}
 use native.Mathlib.Omega.{arith}
 use lib.Dec.{eqb}
@@ -13,59 +14,43 @@ use borrow.Author.Tests.{eq-eqb, ne-eqb, eqb-true}
 use Rattle.machine.specs.declared.ZXMachine.{ZXMachine}
 use Rattle.machine.specs.declared.ZXMachine.the-variants.{Sinclair48K, Sinclair128K}
 use Rattle.snapshot.specs.File.{pagedBank, allBanks, among, without, banksInOrder, placeStart, standsTwice, dueSize, pagingIn, firstPlace, placesOfBanks, sameBytes, copiesDiffer}
+use Rattle.snapshot.proofs.Order.{order, bank-is-place}
 
 -- ---- the order of the banks on 128K, by the bank that is paged
-unfoldable pub orderBy : ℕ → List ℕ
-orderBy paged = 5 ∷ 2 ∷ paged ∷ without (5 ∷ 2 ∷ paged ∷ []) (allBanks Sinclair128K)
-
-pub order-by : (m : ZXMachine) (byte paged : ℕ) → m ≡ Sinclair128K → byte % 8 ≡ paged → banksInOrder m byte ≡ orderBy paged
-unfolding banksInOrder orderBy
+pub order-by : (m : ZXMachine) (byte paged : ℕ) → m ≡ Sinclair128K → byte % 8 ≡ paged → banksInOrder m byte ≡ order paged
+unfolding banksInOrder
 order-by m byte paged e p = rw (e, p)
 
-pub order-is : (m : ZXMachine) (byte paged : ℕ) (r : List ℕ) → m ≡ Sinclair128K → byte % 8 ≡ paged → take (length (orderBy paged)) r ≡ orderBy paged
+pub order-is : (m : ZXMachine) (byte paged : ℕ) (r : List ℕ) → m ≡ Sinclair128K → byte % 8 ≡ paged → take (length (order paged)) r ≡ order paged
     → take (length (banksInOrder m byte)) r ≡ banksInOrder m byte
 order-is m byte paged r e p h = rw (order-by m byte paged e p) h
 
-beyond : (n : ℕ) → suc (suc (suc (suc (suc (suc (suc (suc n))))))) < 8 → ⊥
-beyond n h = omega arith
+four-up : (n : ℕ) → (n ≡ 0 → ⊥) → (n ≡ 1 → ⊥) → (n ≡ 2 → ⊥) → (n ≡ 3 → ⊥) → 4 ≤ n
+four-up n p0 p1 p2 p3 = omega arith
+
+last-one : (n : ℕ) → 4 ≤ n → n < 8 → (n ≡ 4 → ⊥) → (n ≡ 5 → ⊥) → (n ≡ 6 → ⊥) → n ≡ 7
+last-one n h k p4 p5 p6 = omega arith
 
 -- the last of the eight
 pub seven : (n : ℕ) → n < 8 → (n ≡ 0 → ⊥) → (n ≡ 1 → ⊥) → (n ≡ 2 → ⊥) → (n ≡ 3 → ⊥) → (n ≡ 4 → ⊥) → (n ≡ 5 → ⊥) → (n ≡ 6 → ⊥) → n ≡ 7
-seven zero h p0 p1 p2 p3 p4 p5 p6 = absurd (p0 refl)
-seven (suc zero) h p0 p1 p2 p3 p4 p5 p6 = absurd (p1 refl)
-seven (suc (suc zero)) h p0 p1 p2 p3 p4 p5 p6 = absurd (p2 refl)
-seven (suc (suc (suc zero))) h p0 p1 p2 p3 p4 p5 p6 = absurd (p3 refl)
-seven (suc (suc (suc (suc zero)))) h p0 p1 p2 p3 p4 p5 p6 = absurd (p4 refl)
-seven (suc (suc (suc (suc (suc zero))))) h p0 p1 p2 p3 p4 p5 p6 = absurd (p5 refl)
-seven (suc (suc (suc (suc (suc (suc zero)))))) h p0 p1 p2 p3 p4 p5 p6 = absurd (p6 refl)
-seven (suc (suc (suc (suc (suc (suc (suc zero))))))) h p0 p1 p2 p3 p4 p5 p6 = refl
-seven (suc (suc (suc (suc (suc (suc (suc (suc n)))))))) h p0 p1 p2 p3 p4 p5 p6 = absurd (beyond n h)
+seven n h p0 p1 p2 p3 p4 p5 p6 = last-one n (four-up n p0 p1 p2 p3) h p4 p5 p6
 
 -- ---- the place of each bank
 pub places-are : (m : ZXMachine) (byte paged : ℕ) (r : List ℕ) → m ≡ Sinclair128K → byte % 8 ≡ paged
-    → take 8 r ≡ map (λ bank. firstPlace bank (orderBy paged)) (allBanks Sinclair128K) → take (length (allBanks m)) r ≡ placesOfBanks m byte
+    → take 8 r ≡ map (λ bank. firstPlace bank (order paged)) (allBanks Sinclair128K) → take (length (allBanks m)) r ≡ placesOfBanks m byte
 places-are m byte paged r e p h = rw (order-by m byte paged e p, e) h
 
 -- one of them, by its bank
-at-each : (m : ZXMachine) (f : ℕ → ℕ) (k : ℕ) → k < length (allBanks m) → getD (map f (allBanks m)) k 0 ≡ f k
-at-each Sinclair48K f zero h = refl
-at-each Sinclair48K f (suc zero) h = refl
-at-each Sinclair48K f (suc (suc zero)) h = refl
-at-each Sinclair48K f (suc (suc (suc k))) h = absurd (omega arith)
-at-each Sinclair128K f zero h = refl
-at-each Sinclair128K f (suc zero) h = refl
-at-each Sinclair128K f (suc (suc zero)) h = refl
-at-each Sinclair128K f (suc (suc (suc zero))) h = refl
-at-each Sinclair128K f (suc (suc (suc (suc zero)))) h = refl
-at-each Sinclair128K f (suc (suc (suc (suc (suc zero))))) h = refl
-at-each Sinclair128K f (suc (suc (suc (suc (suc (suc zero)))))) h = refl
-at-each Sinclair128K f (suc (suc (suc (suc (suc (suc (suc zero))))))) h = refl
-at-each Sinclair128K f (suc (suc (suc (suc (suc (suc (suc (suc k)))))))) h = absurd (omega arith)
+map-at : (f : ℕ → ℕ) (xs : List ℕ) (k : ℕ) → k < length xs → getD (map f xs) k 0 ≡ f (getD xs k 0)
+map-at f [] k h = absurd (not-suc-le-zero h)
+map-at f (x ∷ xs) zero h = refl
+map-at f (x ∷ xs) (suc k) h = map-at f xs k (le-of-suc-le-suc h)
 
 pub place-at : (m : ZXMachine) (byte : ℕ) (r : List ℕ) (k : ℕ) → take (length (allBanks m)) r ≡ placesOfBanks m byte → k < length (allBanks m)
     → getD r k 0 ≡ firstPlace k (banksInOrder m byte)
 place-at m byte r k e h =
-    sym (getD-take (length (allBanks m)) r k 0 h) ∙ ap (λ (xs : List ℕ). getD xs k 0) e ∙ at-each m (λ bank. firstPlace bank (banksInOrder m byte)) k h
+    sym (getD-take (length (allBanks m)) r k 0 h) ∙ ap (λ (xs : List ℕ). getD xs k 0) e
+    ∙ map-at (λ bank. firstPlace bank (banksInOrder m byte)) (allBanks m) k h ∙ ap (λ (bank : ℕ). firstPlace bank (banksInOrder m byte)) (bank-is-place m k h)
 
 -- ---- two slices that are compared
 pub same-short : (a b : List ℕ) → (length a ≡ length b → ⊥) → false ≡ sameBytes a b
@@ -115,14 +100,14 @@ only-128 Sinclair48K byte t = absurd (false≢true t)
 only-128 Sinclair128K byte t = refl
 
 pub copy-5 : (m : ZXMachine) (byte : ℕ) → standsTwice m byte ≡ true → byte % 8 ≡ 5 → 27 ≡ placeStart (firstPlace (pagedBank byte) (banksInOrder m byte))
-unfolding orderBy without among firstPlace
+unfolding without among firstPlace
 copy-5 m byte t p = rw (order-by m byte 5 (only-128 m byte t) p, p)
 
 else-2 : (n : ℕ) → (eqb n 5 || eqb n 2) ≡ true → (n ≡ 5 → ⊥) → n ≡ 2
 else-2 n t f = eqb-true n 2 (rw (ne-eqb n 5 f) at t)
 
 pub copy-2 : (m : ZXMachine) (byte : ℕ) → standsTwice m byte ≡ true → (byte % 8 ≡ 5 → ⊥) → 16411 ≡ placeStart (firstPlace (pagedBank byte) (banksInOrder m byte))
-unfolding orderBy without among firstPlace
+unfolding without among firstPlace
 copy-2 m byte t f =
     let e = only-128 m byte t in
     let p : byte % 8 ≡ 2 = else-2 (byte % 8) (rw e at t) f in

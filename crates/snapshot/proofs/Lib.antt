@@ -1,6 +1,6 @@
-pub mod Leaves
 pub mod Laid
 pub mod Order
+pub mod Leaves
 pub mod Made
 pub mod Round
 pub mod Front

@@ -19,7 +19,7 @@ use Rattle.snapshot.specs.File.{pagedBank, firstBanks, allBanks, among, 
 use Rattle.snapshot.specs.Kept.{between}
 
 -- the order with bank p paged, and whether p stands twice in it
-abbrev order : ℕ → List ℕ
+abbrev pub order : ℕ → List ℕ
 order p = (5 ∷ 2 ∷ p ∷ []) ++ without (5 ∷ 2 ∷ p ∷ []) (allBanks Sinclair128K)
 
 abbrev twice : ℕ → Bool
