@@ -204,9 +204,13 @@ pub save-scr-unaltered : (state ram file : List ℕ) → (saveScr state ram file
 unfolding saveScr
 save-scr-unaltered state ram file n = changed-kept _ _ (judgeSaveScr state (length ram) (length file)) (saveScr state ram file) refl n
 
+pub save-sna-code : (state ram file registers : List ℕ) → saveSna state ram file registers .code ≡ codeOf (judgeSaveSna state (length ram) (length file) (length registers))
+unfolding saveSna
+save-sna-code state ram file registers = changed-code _ _ (judgeSaveSna state (length ram) (length file) (length registers)) (saveSna state ram file registers) refl
+
 pub save-sna-numbered : (state ram file registers : List ℕ) → Numbered (saveSna state ram file registers .code) (allCauses state (saveSnaCauses (length ram) (length file) (length registers)))
 unfolding saveSna
-save-sna-numbered state ram file registers = numbered (judgeSaveSna state (length ram) (length file) (length registers)) _ _ _ (changed-code _ _ (judgeSaveSna state (length ram) (length file) (length registers)) (saveSna state ram file registers) refl) (save-sna-ordered state (length ram) (length file) (length registers))
+save-sna-numbered state ram file registers = numbered (judgeSaveSna state (length ram) (length file) (length registers)) _ _ _ (save-sna-code state ram file registers) (save-sna-ordered state (length ram) (length file) (length registers))
 
 pub save-sna-unaltered : (state ram file registers : List ℕ) → (saveSna state ram file registers .code ≡ 0 → ⊥) → saveSna state ram file registers .slice ≡ file
 unfolding saveSna

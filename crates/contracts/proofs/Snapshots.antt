@@ -13,6 +13,7 @@ use Rattle.machine.specs.declared.ZXMachine.{ZXMachine}
 use Rattle.machine.specs.declared.ZXMachine.the-variants.{Sinclair48K, Sinclair128K}
 use Rattle.machine.specs.Numbers.{specsOf}
 use Rattle.record.specs.declared.Bus.{Bus}
+use Rattle.record.specs.declared.Held.{Held}
 use Rattle.record.specs.declared.Held.the-variants as held
 use Rattle.record.specs.Words.{Bytes}
 use Rattle.record.specs.Record.{recordOf, recordBytes, heldBy, machineNumber, machineOf, freshRecord}
@@ -20,27 +21,22 @@ use Rattle.record.specs.Sound.{Sound}
 use Rattle.record.proofs.Soundness.{facts-sound}
 use Rattle.record.proofs.Round.{held-encode}
 use Rattle.snapshot.specs.File.{headerLength, borderAt, pagingIn, borderIn, dueSize, ramIn, copiesDiffer}
-use Rattle.snapshot.specs.Kept.{registersLength, registersIn, snapshotRecord, headerOf, snapshotFile}
-use Rattle.snapshot.proofs.Round.{length-ram, length-registers, length-file, paging-back, border-back, ram-back, copies-agree, keptThree, registers-back, file-back}
+use Rattle.snapshot.specs.Kept.{registersLength, registersIn, snapshotRecord, headerOf, keptThree, snapshotFile}
+use Rattle.snapshot.proofs.Round.{length-ram, length-registers, length-file, paging-back, border-back, ram-back, copies-agree, registers-back, file-back}
 use Rattle.bus.specs.World.{beginning}
 use Rattle.judgement.specs.declared.Refusal.the-variants.{BadMachine, BadLength, WrongSize, UnequalCopies}
 use Rattle.judgement.specs.declared.Verdict.the-variants.{Accepted}
-use Rattle.judgement.specs.Refusals.{cause, judged}
-use Rattle.judgement.specs.Judges.{startFits, judgeLoadSna, judgeSaveSna}
+use Rattle.judgement.specs.Refusals.{cause, judged, judgedHeld}
+use Rattle.judgement.specs.Judges.{exportFits, saveSnaCauses, judgeLoadSna, judgeSaveSna}
 use Rattle.judgement.specs.Ready.{ReadySaveSna}
 use Rattle.judgement.proofs.Order.{load-sna-ordered, save-sna-ordered}
 use Rattle.judgement.proofs.Accepted.{ready-save-sna}
 use Rattle.contracts.specs.Timed.{Lent, lentBy, begun}
 use Rattle.contracts.specs.Plain.{codeOf, Changed, changed}
-use Rattle.contracts.specs.Snapshots.{Imported, importLeaves, judgeLoadSnaOf, importedWorld, loadSna, saveSna}
+use Rattle.contracts.specs.Snapshots.{Imported, importLeaves, judgeLoadSnaOf, lentFits, importedWorld, loadSna, saveSna}
 use Rattle.contracts.specs.Calls.{snapshotStart}
-use Rattle.contracts.proofs.Refusals.{begun-code, load-sna-numbered, save-sna-numbered}
+use Rattle.contracts.proofs.Refusals.{begun-code, load-sna-numbered, save-sna-code, save-sna-numbered}
 use Rattle.contracts.proofs.Starts.{import-ready, begun-sound, start-writes}
-
--- the slices that an import is lent have their lengths
-abbrev pub importFits : Lent → List ℕ → ZXMachine → Bool
-importFits l registers m =
-    startFits m (length (l .state)) (length (l .ram)) (length (l .a)) (length (l .b)) (length (l .border)) && eqb (length registers) registersLength
 
 module _ (l : Lent) (file registers : List ℕ) (machine : ℕ) where
   abbrev m : ZXMachine
@@ -53,7 +49,7 @@ module _ (l : Lent) (file registers : List ℕ) (machine : ℕ) where
   unfolding loadSna begun
   import-by e = rw e
 
-  pub import-accepted : machine ≤ 1 → importFits l registers m ≡ true → length file ≡ dueSize m (pagingIn m file) → copiesDiffer m file ≡ false
+  pub import-accepted : machine ≤ 1 → lentFits l registers m ≡ true → length file ≡ dueSize m (pagingIn m file) → copiesDiffer m file ≡ false
       → loadSna l file registers machine ≡ importLeaves 0 (lentBy m (importedWorld m file)) (registersIn m file)
   import-accepted known fits due same =
       import-by
@@ -74,6 +70,10 @@ module _ (l : Lent) (file registers : List ℕ) (machine : ℕ) where
   import-record small bytes z = start-writes (snapshotStart machine file registers) l (small, bytes) z
 
 -- ---- WHERE AN IMPORT IS REFUSED WITH 10 AND WITH 11
+not-true : (t : Bool) → not t ≡ true → t ≡ false
+not-true true e = sym e
+not-true false e = refl
+
 -- four causes in a row: the third refuses exactly where it holds and the two before it do not, the fourth exactly where none before it does
 abbrev fourth : Bool → Bool → Bool → Bool → Bus → ℕ
 fourth a b c d bus = codeOf (judged (cause BadMachine a ∷ cause BadLength b ∷ cause WrongSize c ∷ cause UnequalCopies d ∷ []) bus)
@@ -112,31 +112,27 @@ module _ (l : Lent) (file registers : List ℕ) (machine : ℕ) where
   abbrev code : ℕ
   code = loadSna l file registers machine .code
 
-  by-causes : code ≡ fourth (ltb 1 machine) (not (importFits l registers m′)) (not (eqb (length file) due)) (copiesDiffer m′ file) (snapshotRecord m′ file)
+  by-causes : code ≡ fourth (ltb 1 machine) (not (lentFits l registers m′)) (not (eqb (length file) due)) (copiesDiffer m′ file) (snapshotRecord m′ file)
   unfolding loadSna judgeLoadSna
   by-causes = begun-code l (lentBy m′ (importedWorld m′ file)) (judgeLoadSnaOf l file registers machine)
 
   -- "every size that is not due is 10": where machine and lengths are right, a file of any other size is refused with it,
-  pub size-is-ten : machine ≤ 1 → importFits l registers m′ ≡ true → (length file ≡ due → ⊥) → code ≡ 10
+  pub size-is-ten : machine ≤ 1 → lentFits l registers m′ ≡ true → (length file ≡ due → ⊥) → code ≡ 10
   size-is-ten known fits other =
       by-causes ∙ by-ten _ _ _ _ _ (le-ltb 1 machine known) (ap not fits) (ap not (ne-eqb (length file) due other))
 
   -- "and only such"
-  pub ten-is-size : code ≡ 10 → (machine ≤ 1) × (importFits l registers m′ ≡ true) × (length file ≡ due → ⊥)
+  pub ten-is-size : code ≡ 10 → (machine ≤ 1) × (lentFits l registers m′ ≡ true) × (length file ≡ due → ⊥)
   ten-is-size e =
       let t = ten-by _ _ _ _ _ (sym by-causes ∙ e) in
       (ltb-false 1 machine (t .0), not-false _ (t .1), eqb-false (length file) due (not-true _ (t .2)))
-    where
-      not-true : (t : Bool) → not t ≡ true → t ≡ false
-      not-true true e = sym e
-      not-true false e = refl
 
   -- "11 exactly where both copies are there and differ": copiesDiffer, which crate snapshot says byte by byte (Round.differ-at, differ-somewhere)
-  pub copies-are-eleven : machine ≤ 1 → importFits l registers m′ ≡ true → length file ≡ due → copiesDiffer m′ file ≡ true → code ≡ 11
+  pub copies-are-eleven : machine ≤ 1 → lentFits l registers m′ ≡ true → length file ≡ due → copiesDiffer m′ file ≡ true → code ≡ 11
   copies-are-eleven known fits size differ =
       by-causes ∙ by-eleven _ _ _ _ _ (le-ltb 1 machine known) (ap not fits) (ap not (eq-eqb (length file) due size)) differ
 
-  pub eleven-is-copies : code ≡ 11 → (machine ≤ 1) × (importFits l registers m′ ≡ true) × (length file ≡ due) × (copiesDiffer m′ file ≡ true)
+  pub eleven-is-copies : code ≡ 11 → (machine ≤ 1) × (lentFits l registers m′ ≡ true) × (length file ≡ due) × (copiesDiffer m′ file ≡ true)
   eleven-is-copies e =
       let t = eleven-by _ _ _ _ _ (sym by-causes ∙ e) in
       (ltb-false 1 machine (t .0), not-false _ (t .1), eqb-true (length file) due (not-false _ (t .2)), t .3)
@@ -156,6 +152,36 @@ module _ (state ram file registers : List ℕ) (z : saveSna state ram file regis
   unfolding saveSna
   export-is = rw export-judged
 
+-- AND WHERE AN EXPORT IS: "or the record's when writing". On a sound record, with RAM and registers of their lengths, a file of any other size is refused
+-- with 10; and only such.
+module _ (state ram file registers : List ℕ) where
+  pub export-size-is-ten : (bus : Bus) → heldBy state ≡ held.Sound bus → exportFits bus (length ram) (length registers) ≡ true
+      → (length file ≡ dueSize (bus .machine) (bus .paging) → ⊥) → saveSna state ram file registers .code ≡ 10
+  unfolding saveSna judgeSaveSna judged
+  export-size-is-ten bus h fits other = rw (h, fits, ne-eqb (length file) (dueSize (bus .machine) (bus .paging)) other)
+
+  third-by : (a b : Bool) (bus : Bus) → codeOf (judged (cause BadLength a ∷ cause WrongSize b ∷ []) bus) ≡ 10 → (a ≡ false) × (b ≡ true)
+  unfolding judged
+  third-by true b bus e = absurd (omega arith)
+  third-by false true bus e = (refl, refl)
+  third-by false false bus e = absurd (omega arith)
+
+  ten-by-held : (h : Held) → heldBy state ≡ h → codeOf (judgedHeld h (saveSnaCauses (length ram) (length file) (length registers))) ≡ 10
+      → (bus : Bus) × ((heldBy state ≡ held.Sound bus) × (exportFits bus (length ram) (length registers) ≡ true)
+      × (length file ≡ dueSize (bus .machine) (bus .paging) → ⊥))
+  ten-by-held held.WrongLength p e = absurd (omega arith)
+  ten-by-held held.Unsound p e = absurd (omega arith)
+  ten-by-held (held.Sound bus) p e =
+      let t = third-by _ _ bus e in
+      (bus, (p, not-false _ (t .0), eqb-false (length file) (dueSize (bus .machine) (bus .paging)) (not-true _ (t .1))))
+
+  pub export-ten-is-size : saveSna state ram file registers .code ≡ 10
+      → (bus : Bus) × ((heldBy state ≡ held.Sound bus) × (exportFits bus (length ram) (length registers) ≡ true)
+      × (length file ≡ dueSize (bus .machine) (bus .paging) → ⊥))
+  unfolding judgeSaveSna
+  export-ten-is-size e =
+      ten-by-held (heldBy state) refl (sym (save-sna-code state ram file registers) ∙ e)
+
 -- a machine's number is at most 1, and names it
 number-known : (m : ZXMachine) → machineNumber m ≤ 1
 number-known Sinclair48K = omega arith
@@ -171,7 +197,7 @@ number-names Sinclair128K = refl
 pub save-then-load : (state ram file registers : List ℕ) → saveSna state ram file registers .code ≡ 0
     → let bus = recordOf state in
     let m = bus .machine in
-    (l : Lent) (filled : List ℕ) → importFits l filled m ≡ true
+    (l : Lent) (filled : List ℕ) → lentFits l filled m ≡ true
     → loadSna l (saveSna state ram file registers .slice) filled (machineNumber m)
     ≡ importLeaves 0 (lentBy m (beginning (freshRecord m (bus .paging) (bus .reported) (bus .reported)) ram)) (headerOf registers (bus .reported) ++ keptThree m registers)
 save-then-load state ram file registers z l filled fits =
@@ -184,7 +210,7 @@ save-then-load state ram file registers z l filled fits =
     let edge : borderIn s ≡ b .reported = border-back m (b .paging) (b .reported) ram registers (r .ramIs) (r .registersIs) (r .onRecord .sound .reported) in
     let whole : length s ≡ dueSize m (pagingIn m s) = length-file m (b .paging) (b .reported) ram registers (r .ramIs) (r .registersIs) ∙ ap (dueSize m) (sym page) in
     let equal : copiesDiffer m s ≡ false = copies-agree m (b .paging) (b .reported) ram registers (r .ramIs) (r .registersIs) u in
-    let at : (n : ZXMachine) → n ≡ m → importFits l filled m ≡ true → (k : ℕ) → machineOf k ≡ n → k ≤ 1
+    let at : (n : ZXMachine) → n ≡ m → lentFits l filled m ≡ true → (k : ℕ) → machineOf k ≡ n → k ≤ 1
     → loadSna l s filled k ≡ importLeaves 0 (lentBy m (importedWorld m s)) (registersIn m s) =
     λ n e fits k names known. rw (names, e) at (import-accepted l s filled k known (rw (names, e) fits) (rw (names, e) whole) (rw (names, e) equal)) in
     ap (λ (c : Changed). loadSna l (c .slice) filled (machineNumber m)) (export-is state ram file registers z)

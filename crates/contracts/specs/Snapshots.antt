@@ -1,6 +1,7 @@
 -- Document 02, Q-4: import and export of a snapshot, as C calls them. What stands in a file is crate snapshot's to say.
 -- Assumes nothing.
 use Prim.Native.Nat.{ℕ}
+use mathlib.Core.Bool.{Bool}
 use mathlib.Core.List.{List}
 use lib.ListN.{length}
 use Rattle.machine.specs.declared.ZXMachine.{ZXMachine}
@@ -9,7 +10,7 @@ use Rattle.snapshot.specs.File.{ramIn}
 use Rattle.snapshot.specs.Kept.{registersIn, snapshotRecord, snapshotFile}
 use Rattle.bus.specs.World.{World, beginning}
 use Rattle.judgement.specs.declared.Verdict.{Verdict}
-use Rattle.judgement.specs.Judges.{judgeLoadSna, judgeSaveSna}
+use Rattle.judgement.specs.Judges.{importFits, judgeLoadSna, judgeSaveSna}
 use Rattle.contracts.specs.Timed.{Lent, lentBy, begun}
 use Rattle.contracts.specs.Plain.{Changed, change}
 
@@ -25,6 +26,11 @@ importLeaves code slices registers = record { code = code; slices = slices; regi
 abbrev pub judgeLoadSnaOf : Lent → List ℕ → List ℕ → ℕ → Verdict
 judgeLoadSnaOf l file registers machine =
     judgeLoadSna (length (l .state)) (length (l .ram)) (length registers) (length (l .a)) (length (l .b)) (length (l .border)) machine file
+
+-- the slices that an import is lent, but for its file, have a machine's lengths
+abbrev pub lentFits : Lent → List ℕ → ZXMachine → Bool
+lentFits l registers m =
+    importFits m (length (l .state)) (length (l .ram)) (length registers) (length (l .a)) (length (l .b)) (length (l .border))
 
 -- the world that an import leaves: "The import writes RAM and a fresh record with border, paging and lock, clears pictures and border as a start does"
 abbrev pub importedWorld : ZXMachine → List ℕ → World

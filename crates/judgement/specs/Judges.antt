@@ -183,12 +183,19 @@ judgeLoadScr state ram file page = judge state (loadScrCauses ram file page)
 abbrev pub wrongSize : ZXMachine → ℕ → ℕ → Cause
 wrongSize m byte file = cause WrongSize (not (eqb file (dueSize m byte)))
 
+-- the slices of an import but for its file, and those of an export but for its file and the record
+abbrev pub importFits : ZXMachine → ℕ → ℕ → ℕ → ℕ → ℕ → ℕ → Bool
+importFits m state ram registers a b border = startFits m state ram a b border && eqb registers registersLength
+
+abbrev pub exportFits : Bus → ℕ → ℕ → Bool
+exportFits bus ram registers = ramFits bus ram && eqb registers registersLength
+
 -- an import, which judges no record either: "1 as for a start"; the lengths of a start's slices and of the registers; 10, "then 11 for unequal copies, both
 -- after 2"
 abbrev pub loadSnaCauses : ℕ → ℕ → ℕ → ℕ → ℕ → ℕ → ℕ → List ℕ → List Cause
 loadSnaCauses state ram registers a b border machine file =
     cause BadMachine (ltb 1 machine)
-    ∷ unless (startFits (machineOf machine) state ram a b border && eqb registers registersLength)
+    ∷ unless (importFits (machineOf machine) state ram registers a b border)
     ∷ wrongSize (machineOf machine) (pagingIn (machineOf machine) file) (length file)
     ∷ cause UnequalCopies (copiesDiffer (machineOf machine) file)
     ∷ []
@@ -201,7 +208,7 @@ judgeLoadSna state ram registers a b border machine file =
 -- an export
 abbrev pub saveSnaCauses : ℕ → ℕ → ℕ → Bus → List Cause
 saveSnaCauses ram file registers bus =
-    unless (ramFits bus ram && eqb registers registersLength) ∷ wrongSize (bus .machine) (bus .paging) file ∷ []
+    unless (exportFits bus ram registers) ∷ wrongSize (bus .machine) (bus .paging) file ∷ []
 
 unfoldable pub judgeSaveSna : List ℕ → ℕ → ℕ → ℕ → Verdict
 judgeSaveSna state ram file registers = judge state (saveSnaCauses ram file registers)

@@ -21,8 +21,8 @@ use Rattle.record.specs.Words.{byteAt}
 use Rattle.memory.specs.Paging.{pageAt}
 use Rattle.memory.specs.Memory.{ramPage, pagePart, peeked}
 use Rattle.memory.proofs.Stored.{block-bytes}
-use Rattle.snapshot.specs.File.{headerLength, borderAt, pagingByteAt, pagedBank, firstBanks, remainingBanks, allBanks, banksInOrder, placeStart, standsTwice, dueSize, pagingIn, borderIn, bankAt, bankIn, firstPlace, laid, ramIn, sameBytes, copiesDiffer}
-use Rattle.snapshot.specs.Kept.{registersLength, lastThree, registersIn, headerOf, between, snapshotFile}
+use Rattle.snapshot.specs.File.{headerLength, borderAt, pagingByteAt, pagedBank, firstBanks, remainingBanks, allBanks, banksInOrder, placeStart, standsTwice, dueSize, pagingIn, borderIn, bankAt, bankIn, firstPlace, laid, ramIn, sameBytes, copiesDiffer, copyStart}
+use Rattle.snapshot.specs.Kept.{registersLength, lastThree, registersIn, headerOf, between, snapshotFile, keptThree}
 use Rattle.snapshot.proofs.Laid.{Pieces, length-laid, piece-at, laid-cut}
 use Rattle.snapshot.proofs.Order.{length-order, due-is-banks, due-least, first-three, three-banks, third-paged, ram-is-banks, place-fits, bank-exists, bank-whole, found-itself, found-first, found-inside, found-there, bank-is-place}
 use Rattle.snapshot.proofs.Made.{early-start, early-cut, late-cut, bank-long, bank-byte, regrouped, made-long, made-head, made-behind, made-place}
@@ -184,11 +184,6 @@ copies-agree Sinclair128K byte border ram registers n r z =
     ∙ ap (λ (p : ℕ). ramPage (pagedBank p) ram) (paging-back Sinclair128K byte border ram registers n r z)
     ∙ sym (file-place Sinclair128K byte border ram registers n r 2 (three-banks Sinclair128K byte)))
 
--- what a file keeps of PC and TR-DOS byte: all on 128K, nothing on 48K, where they are read as 0
-abbrev pub keptThree : ZXMachine → List ℕ → List ℕ
-keptThree Sinclair48K registers = 0 ∷ 0 ∷ 0 ∷ []
-keptThree Sinclair128K registers = drop headerLength registers
-
 last-back : (m : ZXMachine) (byte border : ℕ) (ram registers : List ℕ) → length ram ≡ specsOf m .ram → length registers ≡ registersLength
     → lastThree m (snapshotFile m byte border ram registers) ≡ keptThree m registers
 last-back Sinclair48K byte border ram registers n r = refl
@@ -313,9 +308,6 @@ file-back m file due agree =
 
 -- ---- THE TWO COPIES of a bank that stands twice: the paged bank's at the third place, and the one at the bank's first place, the first for bank 5 and
 -- the second for bank 2
-abbrev pub copyStart : ℕ → ℕ
-copyStart byte = cond (eqb (pagedBank byte) 5) (placeStart 0) (placeStart 1)
-
 either-start : (t : Bool) (file : List ℕ) → bankAt (cond t 0 1) file ≡ take 16384 (drop (cond t (placeStart 0) (placeStart 1)) file)
 either-start true file = refl
 either-start false file = refl

@@ -118,6 +118,10 @@ sameBytes [] (y ∷ ys) = false
 sameBytes (x ∷ xs) [] = false
 sameBytes (x ∷ xs) (y ∷ ys) = eqb x y && sameBytes xs ys
 
+-- where the first of the two copies begins: bank 5's own place, or bank 2's; the second is at the third place
+abbrev pub copyStart : ℕ → ℕ
+copyStart byte = cond (eqb (pagedBank byte) 5) (placeStart 0) (placeStart 1)
+
 -- "Where the two copies differ": the paged bank's own, at the third place, and the one at the bank's first place
 unfoldable pub copiesDiffer : ZXMachine → List ℕ → Bool
 copiesDiffer m file =

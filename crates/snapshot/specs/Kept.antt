@@ -2,7 +2,7 @@
 -- Assumes nothing.
 use Prim.Native.Nat.{ℕ, _+_}
 use mathlib.Core.List.{List, [], _∷_, _++_}
-use lib.ListN.{take}
+use lib.ListN.{take, drop}
 use Rattle.machine.specs.declared.ZXMachine.{ZXMachine}
 use Rattle.machine.specs.declared.ZXMachine.the-variants.{Sinclair48K, Sinclair128K}
 use Rattle.record.specs.declared.Bus.{Bus}
@@ -19,6 +19,11 @@ registersLength = headerLength + 3
 abbrev pub lastThree : ZXMachine → List ℕ → List ℕ
 lastThree Sinclair48K file = 0 ∷ 0 ∷ 0 ∷ []
 lastThree Sinclair128K file = byteAt file pcAt ∷ byteAt file (pcAt + 1) ∷ byteAt file trdosAt ∷ []
+
+-- what a file keeps of the last three that are lent to an export: all of them on 128K, "ignored when writing" on 48K, where they are read as 0
+abbrev pub keptThree : ZXMachine → List ℕ → List ℕ
+keptThree Sinclair48K registers = 0 ∷ 0 ∷ 0 ∷ []
+keptThree Sinclair128K registers = drop headerLength registers
 
 unfoldable pub registersIn : ZXMachine → List ℕ → List ℕ
 registersIn m file = take headerLength file ++ lastThree m file
