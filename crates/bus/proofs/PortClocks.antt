@@ -4,19 +4,19 @@
 -- Assumes nothing.
 use mathlib.Core.Path.{_≡_, refl, sym, ap, _∙_}
 use mathlib.Core.List.{List, [], _∷_, _++_}
-use Prim.Native.Nat.{ℕ, zero, suc, _+_, _-_, _*_, _/_, _%_, _<_, _≤_}
+use Prim.Native.Nat.{ℕ, _+_, _-_, _*_, _/_, _%_, _<_, _≤_}
 use native.Mathlib.Nat.{mod-add-mod, mod-eq-of-lt, div-add-mod, div-lt-iff-lt-mul, mul-le-mul-left}
 use native.Mathlib.Decide.{decLt}
 use native.Mathlib.Omega.{arith}
-use lib.ListN.{getD}
 use Rattle.laws.proofs.Cases.{by-bool, by-lt, by-le}
 use Rattle.machine.specs.declared.ZXMachine.{ZXMachine}
 use Rattle.machine.specs.declared.ZXMachine.the-variants.{Sinclair48K}
 use Rattle.machine.specs.declared.ZXSpecs.{ZXSpecs}
 use Rattle.machine.specs.Numbers.{specsOf, Regular}
-use Rattle.machine.specs.Timing.{pattern, delayInLine, delay}
+use Rattle.machine.specs.Timing.{delayInLine, delay}
 use Rattle.machine.specs.Contended.{portContended}
 use Rattle.machine.proofs.Numbered.{regular}
+use Rattle.machine.proofs.Pattern.{worked-out}
 use Rattle.machine.proofs.Bounds.{delay-small}
 use Rattle.memory.specs.declared.Paged.{Paged}
 use Rattle.memory.specs.declared.Paged.the-variants as paging
@@ -33,27 +33,12 @@ use Rattle.bus.proofs.Runs.{core-append, clocksIn, clocks-append, clock
 
 -- ---- delays
 
--- entry x mod 8 is what is left up to place 6, and 0 at place 7
-entry-is : (k : ℕ) → getD pattern k 0 ≡ 6 - k
-entry-is zero = refl
-entry-is (suc zero) = refl
-entry-is (suc (suc zero)) = refl
-entry-is (suc (suc (suc zero))) = refl
-entry-is (suc (suc (suc (suc zero)))) = refl
-entry-is (suc (suc (suc (suc (suc zero))))) = refl
-entry-is (suc (suc (suc (suc (suc (suc zero)))))) = refl
-entry-is (suc (suc (suc (suc (suc (suc (suc zero))))))) = refl
-entry-is (suc (suc (suc (suc (suc (suc (suc (suc k)))))))) = omega arith
-
 held-due : (x : ℕ) → 0 < delayInLine x → (x < 128) × (delayInLine x + x % 8 ≡ 6)
-unfolding delayInLine
 held-due x =
-    by-le (λ (d : ℕ). 0 < d → (x < 128) × (d + x % 8 ≡ 6)) 128 x (λ h p. absurd (omega arith))
-    (λ h p. (h, omega (arith, entry-is (x % 8))))
+    rw (worked-out x) (by-le (λ (d : ℕ). 0 < d → (x < 128) × (d + x % 8 ≡ 6)) 128 x (λ h p. absurd (omega arith)) (λ h p. (h, omega arith)))
 
 held-none : (x : ℕ) → x % 8 ≡ 7 → delayInLine x ≡ 0
-unfolding delayInLine
-held-none x e = by-le (λ (d : ℕ). d ≡ 0) 128 x (λ h. refl) (λ h. entry-is (x % 8) ∙ omega arith)
+held-none x e = rw (worked-out x) (by-le (λ (d : ℕ). d ≡ 0) 128 x (λ h. refl) (λ h. omega arith))
 
 mod-add-small : (a k n : ℕ) → a % n + k < n → (a + k) % n ≡ a % n + k
 mod-add-small a k n h = sym (mod-add-mod a n k) ∙ mod-eq-of-lt h

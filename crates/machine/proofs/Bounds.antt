@@ -3,29 +3,17 @@
 use mathlib.Core.Path.{_≡_, refl, sym, subst}
 use Prim.Native.Nat.{ℕ, zero, suc, _+_, _-_, _*_, _/_, _%_, _<_, _≤_}
 use native.Mathlib.Omega.{arith}
-use lib.ListN.{getD}
 use Rattle.laws.proofs.Cases.{by-lt, by-le}
 use Rattle.machine.specs.declared.ZXSpecs.{ZXSpecs}
 use Rattle.machine.specs.declared.BlocksCount.{BlocksCount}
 use Rattle.machine.specs.declared.BorderPlace.{BorderPlace}
 use Rattle.machine.specs.declared.BorderPlace.the-variants.{At, FrameEnd}
-use Rattle.machine.specs.Timing.{pattern, delayInLine, delay, blocksCapped, blocksFrom, blocksAt, blockPosition, borderCapped, borderFrom, borderAt, borderPosition}
+use Rattle.machine.specs.Timing.{delayInLine, delay, blocksCapped, blocksFrom, blocksAt, blockPosition, borderCapped, borderFrom, borderAt, borderPosition}
+use Rattle.machine.proofs.Pattern.{worked-out}
 
 -- no delay is over 6
-entry-small : (k : ℕ) → getD pattern k 0 ≤ 6
-entry-small zero = omega arith
-entry-small (suc zero) = omega arith
-entry-small (suc (suc zero)) = omega arith
-entry-small (suc (suc (suc zero))) = omega arith
-entry-small (suc (suc (suc (suc zero)))) = omega arith
-entry-small (suc (suc (suc (suc (suc zero))))) = omega arith
-entry-small (suc (suc (suc (suc (suc (suc zero)))))) = omega arith
-entry-small (suc (suc (suc (suc (suc (suc (suc zero))))))) = omega arith
-entry-small (suc (suc (suc (suc (suc (suc (suc (suc y)))))))) = omega arith
-
 held-small : (x : ℕ) → delayInLine x ≤ 6
-unfolding delayInLine
-held-small x = by-le (λ (d : ℕ). d ≤ 6) 128 x (λ h. omega arith) (λ h. entry-small (x % 8))
+held-small x = rw (worked-out x) (by-le (λ (d : ℕ). d ≤ 6) 128 x (λ h. omega arith) (λ h. omega arith))
 
 pub delay-small : (s : ZXSpecs) (t : ℕ) → delay s t ≤ 6
 unfolding delay

@@ -1,5 +1,6 @@
 pub mod Rows
 pub mod Numbered
+pub mod Pattern
 pub mod Bounds
 pub mod Delays
 pub mod Agree

@@ -171,8 +171,6 @@ impl ZXMachine {
     }
 }
 
-const CONTENTION_PATTERN: [u32; 8] = [6, 5, 4, 3, 2, 1, 0, 0];
-
 fn delay_by(s: ZXSpecs, clocks: u32) -> u32
     requires { ⌜ Regular s ⌝ }
     ensures { λ r. ⌜ r ≡ delay s clocks ⌝ }
@@ -187,12 +185,12 @@ fn delay_by(s: ZXSpecs, clocks: u32) -> u32
         return 0;
     }
     let x = (clocks - origin) % line;
-    if x < 128 {
-        let k = (x % 8) as usize;
-        CONTENTION_PATTERN[k]
-    } else {
-        0
+    if 128 <= x {
+        return 0;
     }
+    // "6 - (x mod 8), never below 0": entry x mod 8 of the table of eight, at every x (proofs/Pattern.antt), and no table is read.
+    let place = x % 8;
+    if place < 6 { 6 - place } else { 0 }
 }
 
 fn blocks_by(s: ZXSpecs, clocks: u32) -> BlocksCount
