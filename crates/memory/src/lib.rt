@@ -71,13 +71,17 @@ pub fn screen_bank(m: ZXMachine, paging: u8) -> u8
     }
 }
 
+// Whether the page at an address is contended. It goes by the block and not through the page: of a match over the four blocks the compiler
+// makes a table of jumps, and the timing path reads no table. Block 1 is RAM 0 or 5, block 3 of the 128K the paged bank.
 pub fn addr_is_contended(m: ZXMachine, paging: u8, addr: u16) -> bool
     ensures { λ r. ⌜ r ≡ addrContended m paging addr ⌝ }
 {
-    let page = get_page(m, paging, addr);
-    match page {
-        Page::Rom(_) => false,
-        Page::Ram(bank) => m.bank_is_contended(bank as u32),
+    let block = addr / 16384;
+    match m {
+        ZXMachine::Sinclair48K => block == 1,
+        ZXMachine::Sinclair128K => {
+            (block == 1) | ((block == 3) & m.bank_is_contended((paging & 0x07) as u32))
+        }
     }
 }
 
