@@ -1,13 +1,13 @@
--- The AND of the key rows, row by row: always a byte; a row more, selected and not.
+-- The AND of the key rows, row by row: always a byte; a row more, selected and not; and where no bit is left, none comes back.
 -- Assumes nothing.
-use Prim.Native.Nat.{ℕ, zero, suc, _+_, _^_, _<_}
-use mathlib.Core.Path.{_≡_, sym, _∙_}
+use Prim.Native.Nat.{ℕ, zero, suc, _+_, _-_, _^_, _<_, _≤_}
+use mathlib.Core.Path.{_≡_, ap, sym, _∙_}
 use mathlib.Core.Bool.{Bool, true, false, cond}
 use mathlib.Core.List.{List}
-use native.Mathlib.Nat.{mod-eq-of-lt}
+use native.Mathlib.Nat.{mod-eq-of-lt, zero-add, suc-add}
 use native.Mathlib.Omega.{arith}
 use native.Mathlib.Numerals.{add-one}
-use lib.Bits.{bitAnd, and-le-l, and-mask}
+use lib.Bits.{bitAnd, and-le-l, and-mask, and-zero-l}
 use Rattle.ports.specs.Keys.{selected, rowIn, rowsAnd}
 
 -- the AND is a byte, whatever stands in the rows
@@ -31,3 +31,15 @@ module _ (rows : List ℕ) (port n v v′ : ℕ) (t : Bool) (p : v ≡ rowsAnd r
   pub row-passed : t ≡ false → v′ ≡ v → v′ ≡ rowsAnd rows port (n + 1)
   unfolding rowsAnd
   row-passed e h = rw (add-one, sym q ∙ e, and-byte (rowsAnd rows port n) (rows-byte rows port n)) (h ∙ p)
+
+-- where no bit is left after n rows, none is left after more of them
+none-back : (rows : List ℕ) (port n k : ℕ) → rowsAnd rows port n ≡ 0 → rowsAnd rows port (k + n) ≡ 0
+unfolding rowsAnd
+none-back rows port n zero h = rw (zero-add n) h
+none-back rows port n (suc k) h = rw (suc-add k n, none-back rows port n k h) (and-zero-l (cond (selected port (k + n)) (rowIn rows (k + n)) 0xFF))
+
+-- so the walk may stop there, and before the last row has the AND of all
+pub stopped : (rows : List ℕ) (port n v : ℕ) → v ≡ rowsAnd rows port n → n ≤ 8 → v ≡ 0 → v ≡ rowsAnd rows port 8
+stopped rows port n v p l z =
+    let e : 8 - n + n ≡ 8 = omega arith in
+    z ∙ sym (ap (rowsAnd rows port) (sym e) ∙ none-back rows port n (8 - n) (sym p ∙ z))

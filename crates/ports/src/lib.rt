@@ -170,13 +170,15 @@ fn row_selected(port: u16, n: u16) -> bool
     (port >> (8 + n)) & 1 == 0
 }
 
-// The byte of an even port: the selected rows of the three sets ANDed, and bit 6 toggled when the tape bit is 0.
+// The byte of an even port: the selected rows of the three sets ANDed, and bit 6 toggled when the tape bit is 0. Once no bit is left no
+// row brings one back. The walk asks for that at each row, which also keeps the compiler from ANDing all rows at once by masks that it
+// would have to load.
 pub fn keys(rows: [u8; 24], tape: u8, port: u16) -> u8
     ensures { λ r. ⌜ r ≡ keysRead rows tape port ⌝ }
 {
     let mut value: u8 = 0xFF;
     let mut n: usize = 0;
-    while n < 8 {
+    while n < 8 && value != 0 {
         if row_selected(port, n as u16) {
             value = value & (rows[n] & rows[n + 8] & rows[n + 16]);
         }

@@ -1,12 +1,12 @@
 -- The loop's invariant: the value is the AND over the rows passed. A row that is not selected counts as FFh in the definition, which leaves a byte as it is.
 use Prim.Native.Nat.{_≤_, _-_}
-use mathlib.Core.Path.{_≡_, refl}
+use mathlib.Core.Path.{_≡_, refl, ap, _∙_}
 use mathlib.Core.Logic.{⊎-elim}
 use native.Mathlib.Omega.{arith}
 use borrow.Author.Needs.{needs}
-use borrow.Author.Tests.{eq-eqb, ne-eqb}
+use borrow.Author.Tests.{eq-eqb, ne-eqb, eqb-true, not-false}
 use Rattle.ports.specs.Keys.{rowsAnd, keysRead}
-use Rattle.ports.proofs.Rows.{row-taken, row-passed}
+use Rattle.ports.proofs.Rows.{row-taken, row-passed, stopped}
 use Rattle.ports.proofs.keys.Statement.{statement}
 use Rattle.ports.proofs.keys.Tie as tie
 
@@ -49,28 +49,33 @@ loop-less c = omega arith
 
 loop-again : tie.Need-loop-again Inv-loop μ-loop
 loop-again c =
-    let l = c .before .before .before in
+    let l = c .before .before .before .before in
     let a = l .before .args in (
       omega arith,
       ⊎-elim
           (λ w. row-taken (a .t1) (a .port) (l .loop .n) _ _ _ (l .loop .inv .1) (c .before .row-selected .ensures) (w .0 .taken) (w .1))
           (λ w. row-passed (a .t1) (a .port) (l .loop .n) _ _ _ (l .loop .inv .1) (c .before .row-selected .ensures) (w .0 .left) (w .1))
-          (c .if1 .came),
+          (c .if2 .came),
     )
+
+-- the walk ends with the AND of all rows, at the last row or before it
+module _ (c : tie.Left-loop Inv-loop μ-loop) where
+  all-rows : c .before .loop .value ≡ rowsAnd (c .before .before .args .t1) (c .before .before .args .port) 8
+  all-rows =
+      let l = c .before .loop in
+      let a = c .before .before .args in
+      ⊎-elim
+      (λ w. stopped (a .t1) (a .port) (l .n) (l .value) (l .inv .1) (l .inv .0) (eqb-true (l .value) 0 (not-false _ (w .1 .left))))
+      (λ w. let e : l .n ≡ 8 = omega (arith, w .left) in l .inv .1 ∙ ap (rowsAnd (a .t1) (a .port)) e)
+      (c .loop-test .came)
 
 returns : tie.Need-returns Inv-loop μ-loop
 unfolding keysRead
-returns c =
-    let l = c .before .before .loop in
-    let e : l .n ≡ 8 = omega arith in
-    rw (eq-eqb _ _ (c .if2 .taken), l .inv .1, e)
+returns c = rw (eq-eqb _ _ (c .if3 .taken), all-rows (c .before))
 
 returns-2 : tie.Need-returns-2 Inv-loop μ-loop
 unfolding keysRead
-returns-2 c =
-    let l = c .before .before .loop in
-    let e : l .n ≡ 8 = omega arith in
-    rw (ne-eqb _ _ (c .if2 .left), l .inv .1, e)
+returns-2 c = rw (ne-eqb _ _ (c .if3 .left), all-rows (c .before))
 
 pub keys-spec : {M : Type 1} → statement M
 keys-spec =
