@@ -3,7 +3,7 @@
 use Prim.Native.Nat.{ℕ, _+_, _%_, _^_, _<_, _≤_}
 use mathlib.Core.Path.{_≡_, refl, sym, ap, _∙_, subst}
 use mathlib.Core.Bool.{Bool, or-false}
-use mathlib.Core.List.{List, []}
+use mathlib.Core.List.{List, [], _∷_}
 use native.Mathlib.Omega.{arith}
 use native.Mathlib.Nat.{add-zero}
 use Rattle.machine.specs.declared.ZXMachine.{ZXMachine}
@@ -17,6 +17,9 @@ use Rattle.ports.specs.declared.Devices.{Devices}
 use Rattle.ports.specs.declared.Answer.{Answer}
 use Rattle.ports.specs.declared.Written.{Written}
 use Rattle.ports.specs.declared.Written.the-variants as written
+use Rattle.ports.proofs.Written.{the-type}
+use types.Run.{OneOf, miss}
+use denote.Enum.Declared.{tagOf}
 use Rattle.ports.specs.Order.{readOrder}
 use Rattle.ports.specs.Hearers as hearer
 use Rattle.ports.specs.Hearers.{hearers, heardCode, hearersOf}
@@ -230,6 +233,27 @@ module _ (t u : Turn) (port v first : ℕ) (r : Ready t 2 28)
             follows (firstPart (t .machine) port) (λ m. andThen m (pagingWrite m v) (andThen m (lastPart m port) finalStep)) t u y first-part
             (follows (pagingWrite (u .machine) v) (λ m. andThen m (lastPart m port) finalStep) u x y acts (last-part y e))
 
+-- Who hears a port write without the bus: the extender, the AY's two classes, and nobody. They are the code's last arm, by their places among
+-- the cases of `Written`. Nothing is done to the bus, and what the paging latch would answer does not count.
+abbrev pub Quiet : Written → Type 0
+Quiet w = OneOf (0 ∷ 1 ∷ 2 ∷ 5 ∷ []) (tagOf the-type w)
+
+quiet-ops : (w : Written) → Quiet w → (m : ZXMachine) (v : ℕ) (c : Core) → actedOn m (hearersOf w) v c ≡ []
+quiet-ops written.Extender q m v c = refl
+quiet-ops written.AySelect q m v c = refl
+quiet-ops written.AyWrite q m v c = refl
+quiet-ops written.Border q m v c = absurd (miss (0 ∷ 1 ∷ 2 ∷ 5 ∷ []) 3 tt q)
+quiet-ops written.Paging q m v c = absurd (miss (0 ∷ 1 ∷ 2 ∷ 5 ∷ []) 4 tt q)
+quiet-ops written.Nothing q m v c = refl
+
+quiet-same : (w : Written) → Quiet w → (n : ℕ) → heardCode (hearersOf w) 0 ≡ heardCode (hearersOf w) n
+quiet-same written.Extender q n = refl
+quiet-same written.AySelect q n = refl
+quiet-same written.AyWrite q n = refl
+quiet-same written.Border q n = refl
+quiet-same written.Paging q n = absurd (miss (0 ∷ 1 ∷ 2 ∷ 5 ∷ []) 4 tt q)
+quiet-same written.Nothing q n = refl
+
 -- a port write by who hears it
 module _ (t : Turn) (d : Devices) (port v : ℕ) (w : Written) (heard : hearersOf w ≡ hearers (t .machine) d port) where
   by-hearer : (h : Written) → w ≡ h → (u : Turn)
@@ -238,11 +262,9 @@ module _ (t : Turn) (d : Devices) (port v : ℕ) (w : Written) (heard : hearersO
   by-hearer h e u p = rw (← heard, e) p
 
   module _ (r : Ready t 2 28) (u : Turn) where
-    -- nothing is done to the bus: `none` is `refl` for each such hearer
-    pub quiet-write : (h : Written) → ((c : Core) → actedOn (t .machine) (hearersOf h) v c ≡ []) → w ≡ h
-        → u ≡ turned (tick (partClocks (t .machine) (t .world .core .paging) port (t .world .core .clock) + 1)) t
+    pub quiet-write : Quiet w → u ≡ turned (tick (partClocks (t .machine) (t .world .core .paging) port (t .world .core .clock) + 1)) t
         → u ≡ ranBy (portWrite (t .machine) d port v) t
-    quiet-write h none e p = by-hearer h e u (p ∙ sym (quiet-step t (r .inFrame) (r .inPlace) port (actedOn (t .machine) (hearersOf h) v) none))
+    quiet-write q p = by-hearer w refl u (p ∙ sym (quiet-step t (r .inFrame) (r .inPlace) port (actedOn (t .machine) (hearersOf w) v) (quiet-ops w q (t .machine) v)))
 
     pub border-write : w ≡ written.Border
         → u ≡ turned (tick (partClocks (t .machine) (t .world .core .paging) port (t .world .core .clock) + 1))
@@ -256,10 +278,14 @@ module _ (t : Turn) (d : Devices) (port v : ℕ) (w : Written) (heard : hearersO
         (p ∙ ap (λ (f : Part). ranBy (andThen (t .machine) (firstPart (t .machine) port) (andThen (t .machine) f (andThen (t .machine) (lastPart (t .machine) port) finalStep))) t)
         (sym (acts-alone (t .machine) hearer.paging v)))
 
-  -- the code that a hearer other than the paging latch gives
-  pub quiet-code : (h : Written) (k : ℕ) → w ≡ h → ((n : ℕ) → k ≡ heardCode (hearersOf h) n) → k ≡ writeCode (t .machine) d port v (t .world .core)
+  -- the code that they give, the border's,
+  pub quiet-code : Quiet w → (k : ℕ) → k ≡ heardCode (hearersOf w) 0 → k ≡ writeCode (t .machine) d port v (t .world .core)
   unfolding writeCode
-  quiet-code h k e f = rw (← heard, e) (f _)
+  quiet-code q k e = rw (← heard) (e ∙ quiet-same w q _)
+
+  pub border-code : w ≡ written.Border → 4 ≡ writeCode (t .machine) d port v (t .world .core)
+  unfolding writeCode
+  border-code e = rw (← heard, e)
 
   -- and the latch's own
   pub latch-code : (r : Ready t 2 28) (k : ℕ) → w ≡ written.Paging → k ≡ pagedCode (write7ffd (t .machine) (t .world .core .paging) v)

@@ -254,26 +254,17 @@ pub fn write_io(
     let m = bus.machine;
     let written = ports::write_port(m, devices, port);
     match written {
-        Written::Extender => {
-            let turn = write_quietly(t, port, ram, a, b, border);
-            WriteTurn { turn, code: 1 }
-        }
-        Written::AySelect => {
-            let turn = write_quietly(t, port, ram, a, b, border);
-            WriteTurn { turn, code: 2 }
-        }
-        Written::AyWrite => {
-            let turn = write_quietly(t, port, ram, a, b, border);
-            WriteTurn { turn, code: 3 }
-        }
         Written::Border => {
             let turn = write_border(t, port, value % 8, ram, a, b, border);
             WriteTurn { turn, code: 4 }
         }
         Written::Paging => write_paging(t, port, value, ram, a, b, border),
-        Written::Nothing => {
+        _ => {
             let turn = write_quietly(t, port, ram, a, b, border);
-            WriteTurn { turn, code: 0 }
+            WriteTurn {
+                turn,
+                code: ports::written_code(written, 0),
+            }
         }
     }
 }

@@ -26,10 +26,11 @@ pub struct Bus {
     pub reported: u8,
     // The colour in which the beam paints the border.
     pub colour: u8,
-    // Whether a write of this frame has already filled the border to its end.
-    pub blocked: bool,
     // How far the border of this frame is painted, in pixel pairs.
     pub pairs: u16,
+    // Whether a write of this frame has already filled the border to its end. It stands behind the pairs, and not before them as in the bytes:
+    // next to three single bytes the compiler packs all four and loads a mask for the flag.
+    pub blocked: bool,
 }
 
 // What a lent slice holds.
