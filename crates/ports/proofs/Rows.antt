@@ -1,8 +1,8 @@
--- The AND of the key rows, row by row: always a byte; a row more, selected and not; and where no bit is left, none comes back.
+-- The AND of the key rows, row by row: always a byte; two rows more; and where no bit is left, none comes back.
 -- Assumes nothing.
 use Prim.Native.Nat.{ℕ, zero, suc, _+_, _-_, _^_, _<_, _≤_}
 use mathlib.Core.Path.{_≡_, ap, sym, _∙_}
-use mathlib.Core.Bool.{Bool, true, false, cond}
+use mathlib.Core.Bool.{cond}
 use mathlib.Core.List.{List}
 use native.Mathlib.Nat.{mod-eq-of-lt, zero-add, suc-add}
 use native.Mathlib.Omega.{arith}
@@ -21,16 +21,11 @@ rows-byte rows port (suc n) =
 pub and-byte : (v : ℕ) → v < 256 → bitAnd v 0xFF ≡ v
 and-byte v h = and-mask v 8 ∙ mod-eq-of-lt {n = v} {m = 2 ^ 8} h
 
-module _ (rows : List ℕ) (port n v v′ : ℕ) (t : Bool) (p : v ≡ rowsAnd rows port n) (q : t ≡ selected port n) where
-  -- a selected row is ANDed in
-  pub row-taken : t ≡ true → v′ ≡ bitAnd v (rowIn rows n) → v′ ≡ rowsAnd rows port (n + 1)
-  unfolding rowsAnd
-  row-taken e h = rw (add-one, sym q ∙ e) (rw p at h)
-
-  -- another is passed over
-  pub row-passed : t ≡ false → v′ ≡ v → v′ ≡ rowsAnd rows port (n + 1)
-  unfolding rowsAnd
-  row-passed e h = rw (add-one, sym q ∙ e, and-byte (rowsAnd rows port n) (rows-byte rows port n)) (h ∙ p)
+-- two rows more
+pub two-rows : (rows : List ℕ) (port n v : ℕ) → v ≡ rowsAnd rows port n
+    → bitAnd (bitAnd v (cond (selected port n) (rowIn rows n) 0xFF)) (cond (selected port (n + 1)) (rowIn rows (n + 1)) 0xFF) ≡ rowsAnd rows port (n + 2)
+unfolding rowsAnd
+two-rows rows port n v p = let e : n + 2 ≡ suc (suc n) = omega arith in rw (e, p, add-one)
 
 -- where no bit is left after n rows, none is left after more of them
 none-back : (rows : List ℕ) (port n k : ℕ) → rowsAnd rows port n ≡ 0 → rowsAnd rows port (k + n) ≡ 0

@@ -4,9 +4,10 @@
 ghost use mathlib.Core.Path.{_≡_};
 ghost use Prim.Native.Nat.{_+_, _<_};
 ghost use lib.ListN.{length};
+ghost use mathlib.Core.Bool.{cond};
 ghost use Rattle.machine.specs.Numbers.{specsOf, Regular};
 ghost use Rattle.ports.specs.Devices.{extenderOf, ayOf, joystickOf, mouseOf, rowsOf, devicesOf, flagsOf, devicesLength};
-ghost use Rattle.ports.specs.Keys.{selected, keysRead};
+ghost use Rattle.ports.specs.Keys.{selected, rowIn, keysRead};
 ghost use Rattle.ports.specs.Order.{withJoystick, withAy, withMouse, readOrder};
 ghost use Rattle.ports.specs.Hearers.{portHearers, hearers, heardCode, hearersOf};
 ghost use Rattle.offsets.specs.Offset.{lineStart, attributeStart};
@@ -170,19 +171,31 @@ fn row_selected(port: u16, n: u16) -> bool
     (port >> (8 + n)) & 1 == 0
 }
 
+// Row n of the three sets if the port selects it, else FFh, which leaves a byte as it is.
+fn row_read(rows: [u8; 24], port: u16, n: usize) -> u8
+    requires { ⌜ n < 8 ⌝ }
+    ensures { λ r. ⌜ r ≡ cond (selected port n) (rowIn rows n) 0xFF ⌝ }
+{
+    if row_selected(port, n as u16) {
+        rows[n] & rows[n + 8] & rows[n + 16]
+    } else {
+        0xFF
+    }
+}
+
 // The byte of an even port: the selected rows of the three sets ANDed, and bit 6 toggled when the tape bit is 0. Once no bit is left no
-// row brings one back. The walk asks for that at each row, which also keeps the compiler from ANDing all rows at once by masks that it
-// would have to load.
+// row brings one back. The walk asks for that at every second row, which also keeps the compiler from ANDing all rows at once by masks
+// that it would have to load.
 pub fn keys(rows: [u8; 24], tape: u8, port: u16) -> u8
     ensures { λ r. ⌜ r ≡ keysRead rows tape port ⌝ }
 {
     let mut value: u8 = 0xFF;
     let mut n: usize = 0;
     while n < 8 && value != 0 {
-        if row_selected(port, n as u16) {
-            value = value & (rows[n] & rows[n + 8] & rows[n + 16]);
-        }
-        n += 1;
+        let even = row_read(rows, port, n);
+        let odd = row_read(rows, port, n + 1);
+        value = value & even & odd;
+        n += 2;
     }
     if tape == 0 { value ^ 0x40 } else { value }
 }
