@@ -171,13 +171,15 @@ fn row_selected(port: u16, n: u16) -> bool
     (port >> (8 + n)) & 1 == 0
 }
 
-// Row n of the three sets if the port selects it, else FFh, which leaves a byte as it is.
+// Row n of the three sets if the port selects it, else FFh, which leaves a byte as it is. It is read in either case: a processor guesses a
+// branch past it wrong.
 fn row_read(rows: [u8; 24], port: u16, n: usize) -> u8
     requires { ⌜ n < 8 ⌝ }
     ensures { λ r. ⌜ r ≡ cond (selected port n) (rowIn rows n) 0xFF ⌝ }
 {
+    let row = rows[n] & rows[n + 8] & rows[n + 16];
     if row_selected(port, n as u16) {
-        rows[n] & rows[n + 8] & rows[n + 16]
+        row
     } else {
         0xFF
     }
