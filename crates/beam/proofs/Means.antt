@@ -14,7 +14,7 @@ use Rattle.machine.specs.declared.ZXMachine.{ZXMachine}
 use Rattle.machine.specs.declared.ZXMachine.the-variants.{Sinclair48K, Sinclair128K}
 use Rattle.machine.specs.Numbers.{specsOf}
 use Rattle.beam.specs.declared.Line.{Line}
-use Rattle.beam.specs.declared.Line.the-variants.{Beam, Bad}
+use Rattle.beam.specs.declared.Line.the-variants.{Clock, Bad}
 use Rattle.beam.specs.Decimal.{digits, decimal, value, sameText, startsWith}
 use Rattle.beam.specs.Meaning.{opening, lineText, clockMeaning, lineMeaning}
 use Rattle.beam.proofs.Spelling.{same-text}
@@ -70,10 +70,10 @@ module _ (line : List ℕ) (r : Bool) (er : r ≡ startsWith (52 ∷ 56 ∷ 32 �
     of-none f g = rw (sym er ∙ f, sym es ∙ g)
 
 -- a text means a clock only as its spelling, below the frame
-clock-in : (m m′ : ZXMachine) (text : List ℕ) (t : ℕ) → clockMeaning m text ≡ Beam m′ t → (m ≡ m′) × (text ≡ decimal t) × (t < specsOf m .frame)
+clock-in : (m m′ : ZXMachine) (text : List ℕ) (t : ℕ) → clockMeaning m text ≡ Clock m′ t → (m ≡ m′) × (text ≡ decimal t) × (t < specsOf m .frame)
 unfolding clockMeaning
 clock-in m m′ text t =
-    by-bool (λ (l : Line). l ≡ Beam m′ t → (m ≡ m′) × (text ≡ decimal t) × (t < specsOf m .frame))
+    by-bool (λ (l : Line). l ≡ Clock m′ t → (m ≡ m′) × (text ≡ decimal t) × (t < specsOf m .frame))
     (sameText text (decimal (value text)) && ltb (value text) (specsOf m .frame))
     (λ e h. let v : value text ≡ t = cc in
     let s : text ≡ decimal (value text) = same-text text (decimal (value text)) (and-left (sameText text (decimal (value text))) (ltb (value text) (specsOf m .frame)) e) in
@@ -83,15 +83,15 @@ clock-in m m′ text t =
 
 -- Document 01's sentence, one way: a line that means a machine and a clock is the machine's name, one space and the clock in decimal without
 -- leading zeros, and the clock is below the frame.
-pub means-in : (line : List ℕ) (m : ZXMachine) (t : ℕ) → lineMeaning line ≡ Beam m t → (line ≡ lineText m t) × (t < specsOf m .frame)
+pub means-in : (line : List ℕ) (m : ZXMachine) (t : ℕ) → lineMeaning line ≡ Clock m t → (line ≡ lineText m t) × (t < specsOf m .frame)
 unfolding lineMeaning
 means-in line m t =
     by-bool P (startsWith (opening Sinclair48K) line) (λ e h. named Sinclair48K e h)
     (λ f. by-bool P (startsWith (opening Sinclair128K) line) (λ e h. named Sinclair128K e h) (λ e h. let z : _≡_ {A = ℕ} 0 1 = cc in absurd (omega arith))) where
       P : Line → Type 0
-      P l = l ≡ Beam m t → (line ≡ lineText m t) × (t < specsOf m .frame)
+      P l = l ≡ Clock m t → (line ≡ lineText m t) × (t < specsOf m .frame)
 
-      named : (m′ : ZXMachine) → startsWith (opening m′) line ≡ true → clockMeaning m′ (drop (length (opening m′)) line) ≡ Beam m t
+      named : (m′ : ZXMachine) → startsWith (opening m′) line ≡ true → clockMeaning m′ (drop (length (opening m′)) line) ≡ Clock m t
           → (line ≡ lineText m t) × (t < specsOf m .frame)
       named m′ e h =
           let c = clock-in m′ m (drop (length (opening m′)) line) t h in
@@ -103,7 +103,7 @@ unfolding startsWith decimal digits
 other-opening t = refl
 
 -- and the other way: each such line means just that
-pub means-out : (m : ZXMachine) (t : ℕ) → t < specsOf m .frame → lineMeaning (lineText m t) ≡ Beam m t
+pub means-out : (m : ZXMachine) (t : ℕ) → t < specsOf m .frame → lineMeaning (lineText m t) ≡ Clock m t
 unfolding lineMeaning
 means-out Sinclair48K t h =
     rw (opens (opening Sinclair48K) (decimal t), drop-append-seam (opening Sinclair48K) (decimal t))

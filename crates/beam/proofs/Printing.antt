@@ -1,4 +1,4 @@
--- What the writers put one after the other is what document 01 prints for a line, and there is room for each piece.
+-- What the writers put one after the other is what is printed for a line, and there is room for each piece.
 -- Assumes nothing.
 use Prim.Native.Nat.{ℕ, suc, _+_, _<_, _≤_}
 use mathlib.Core.Path.{_≡_, ap}
@@ -8,10 +8,10 @@ use native.Mathlib.Omega.{arith}
 use lib.ListN.{length, getD, drop, set, length-append, drop-of-length-le}
 use lib.Seq.{drop-cons}
 use Rattle.machine.specs.declared.ZXMachine.{ZXMachine}
-use Rattle.beam.specs.declared.Line.{Line}
+use Rattle.beam.specs.declared.Question.{Question}
 use Rattle.beam.specs.Decimal.{decimal}
 use Rattle.beam.specs.Meaning.{model}
-use Rattle.beam.specs.Printed.{spaced, fields, lineReport}
+use Rattle.beam.specs.Printed.{spaced, outside, answerTo}
 use Rattle.beam.specs.Inner.{Put}
 use Rattle.beam.proofs.Runs.{Left, put-one, put-then, put-long, left-step, left-end}
 
@@ -55,24 +55,32 @@ module _ (l here : List ℕ) (at next : ℕ) (ns : List ℕ) (i : ℕ) (r : Left
   pub spaced-end : length ns ≤ i → Put l at (spaced ns) (next + 1) (set here next 10)
   spaced-end k = left-end (left-step {rest = []} (rw (no-field k) at r) (put-one here next 10))
 
--- the machine's name, and the fields behind it
-module _ (m : ZXMachine) (t : ℕ) (l : List ℕ) (at k : ℕ) (ns : List ℕ) (ek : k ≡ model m) (en : ns ≡ fields m t) where
-  pub beam-name : at + length (decimal (model m) ++ spaced (fields m t)) ≤ length l → at + length (decimal k) ≤ length l
-  beam-name h = rw ek (omega (arith, length-append (decimal (model m)) (spaced (fields m t))))
+-- " outside" behind a clock
+pub clock-room : (t at k : ℕ) → at + length (32 ∷ (decimal t ++ outside)) ≤ k → at + length (32 ∷ decimal t) ≤ k
+clock-room t at k h = omega (arith, length-append (decimal t) outside)
 
-  module _ (l′ : List ℕ) (p : ℕ) (f : Put l at (decimal k) p l′) where
-    pub beam-rest : at + length (decimal (model m) ++ spaced (fields m t)) ≤ length l → p + length (spaced ns) ≤ length l′
-    beam-rest h =
-        rw en
-        (omega (arith, length-append (decimal (model m)) (spaced (fields m t)), ap (λ (x : ℕ). length (decimal x)) ek, f .moved, put-long f))
+pub outside-room : (t : ℕ) {l l′ : List ℕ} {at p : ℕ} → Put l at (32 ∷ decimal t) p l′ → at + length (32 ∷ (decimal t ++ outside)) ≤ length l
+    → p + length outside ≤ length l′
+outside-room t f h = omega (arith, length-append (decimal t) outside, f .moved, put-long f)
 
-    pub beam-put : (l″ : List ℕ) (q : ℕ) → Put l′ p (spaced ns) q l″ → Put l at (decimal (model m) ++ spaced (fields m t)) q l″
-    beam-put l″ q g = rw (← ek, ← en) (put-then f g)
+-- the machine's name, and behind it the answer to the question that a match was told
+module _ (question : Question) (m : ZXMachine) (t : ℕ) (l : List ℕ) (at k : ℕ) (ek : k ≡ model m) where
+  pub name-room : at + length (decimal (model m) ++ answerTo question m t) ≤ length l → at + length (decimal k) ≤ length l
+  name-room h = rw ek (omega (arith, length-append (decimal (model m)) (answerTo question m t)))
 
--- what is printed goes by what the line means
-module _ (l : List ℕ) (at number : ℕ) (x y : Line) (e : x ≡ y) where
-  pub line-room : at + length (lineReport number y) ≤ length l → at + length (lineReport number x) ≤ length l
-  line-room h = rw e h
+  module _ (l′ : List ℕ) (p : ℕ) (f : Put l at (decimal k) p l′) (asked : Question) (e : question ≡ asked) where
+    pub answer-room : at + length (decimal (model m) ++ answerTo question m t) ≤ length l → p + length (answerTo asked m t) ≤ length l′
+    answer-room h =
+        rw (← e)
+        (omega (arith, length-append (decimal (model m)) (answerTo question m t), ap (λ (x : ℕ). length (decimal x)) ek, f .moved, put-long f))
 
-  pub line-put : (l′ : List ℕ) (q : ℕ) → Put l at (lineReport number x) q l′ → Put l at (lineReport number y) q l′
-  line-put l′ q f = rw (← e) f
+    pub answer-put : {l″ : List ℕ} {q : ℕ} → Put l′ p (answerTo asked m t) q l″ → Put l at (decimal (model m) ++ answerTo question m t) q l″
+    answer-put g = rw (← ek, e) (put-then f g)
+
+-- what is printed goes by what a match was told
+module _ {A : Type 0} (text : A → List ℕ) (x y : A) (e : x ≡ y) where
+  pub told-room : (at k : ℕ) → at + length (text y) ≤ k → at + length (text x) ≤ k
+  told-room at k h = rw e h
+
+  pub told-put : {l l′ : List ℕ} {at p : ℕ} → Put l at (text x) p l′ → Put l at (text y) p l′
+  told-put f = rw (← e) f

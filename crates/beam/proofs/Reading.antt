@@ -17,7 +17,7 @@ use Rattle.machine.specs.declared.ZXSpecs.{ZXSpecs}
 use Rattle.machine.specs.Numbers.{specsOf}
 use Rattle.machine.proofs.Numbered.{regular}
 use Rattle.beam.specs.declared.Line.{Line}
-use Rattle.beam.specs.declared.Line.the-variants.{Beam, Bad}
+use Rattle.beam.specs.declared.Line.the-variants.{Clock, Bad}
 use Rattle.beam.specs.Decimal.{decimal, valueFrom, value, sameText}
 use Rattle.beam.specs.Meaning.{clockMeaning}
 use Rattle.beam.proofs.Spelling.{decimal-small, decimal-large, length-some, all-digits, first-digit, value-grows, value-back, same-text, text-same}
@@ -39,14 +39,14 @@ past-frame m text h =
     (λ e. refl)
 
 -- the clock is below the frame
-pub in-frame : (m : ZXMachine) (text : List ℕ) (v : ℕ) → text ≡ decimal v → v < specsOf m .frame → Beam m v ≡ clockMeaning m text
+pub in-frame : (m : ZXMachine) (text : List ℕ) (v : ℕ) → text ≡ decimal v → v < specsOf m .frame → Clock m v ≡ clockMeaning m text
 unfolding clockMeaning
 in-frame m text v e h =
     let w : value text ≡ v = ap value e ∙ value-back v in
     let s : sameText text (decimal (value text)) ≡ true = rw (w, e) (text-same (decimal v)) in
     let l : ltb (value text) (specsOf m .frame) ≡ true = rw w (lt-ltb v (specsOf m .frame) h) in
     let t : (sameText text (decimal (value text)) && ltb (value text) (specsOf m .frame)) ≡ true = and-both _ _ s l in
-    rw t (ap (λ (x : ℕ). Beam m x) (sym w))
+    rw t (ap (λ (x : ℕ). Clock m x) (sym w))
 
 -- every frame is short enough that no sum of the loop can wrap
 pub frame-short : (m : ZXMachine) (s : ZXSpecs) → s ≡ specsOf m → s .frame < 2 ^ 17
@@ -132,7 +132,7 @@ module _ (m : ZXMachine) (text : List ℕ) (v i : ℕ) (r : Read text v i) where
   pub large : (frame : ℕ) → frame ≡ specsOf m .frame → frame ≤ v → Bad ≡ clockMeaning m text
   large frame e h = past-frame m text (omega (arith, value-grows v (drop i text), r .toCome))
 
-  pub ended : (frame : ℕ) → frame ≡ specsOf m .frame → length text ≤ i → 0 < length text → v < frame → Beam m v ≡ clockMeaning m text
+  pub ended : (frame : ℕ) → frame ≡ specsOf m .frame → length text ≤ i → 0 < length text → v < frame → Clock m v ≡ clockMeaning m text
   ended frame e h p l = in-frame m text v (sym (r .spelt (omega arith) ∙ take-all i text h)) (omega arith)
 
   pub ended-past : (frame : ℕ) → frame ≡ specsOf m .frame → length text ≤ i → frame ≤ v → Bad ≡ clockMeaning m text

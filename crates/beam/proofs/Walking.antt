@@ -6,6 +6,7 @@ use mathlib.Core.List.{List, _∷_, _++_}
 use native.Mathlib.Omega.{arith}
 use lib.ListN.{length, take, drop, length-take, length-drop, drop-of-length-le}
 use lib.Seq.{drop-drop}
+use Rattle.beam.specs.declared.Question.{Question}
 use Rattle.beam.specs.Meaning.{lineMeaning, linesOf}
 use Rattle.beam.specs.Printed.{lineReport}
 use Rattle.beam.specs.Whole.{linesReport}
@@ -19,17 +20,17 @@ pub end-in : (input : List ℕ) (from end : ℕ) → end ≡ from + lineLength (
 end-in input from end e h = omega (arith, line-in (drop from input), length-drop from input)
 
 -- the lines from `from` on are still to be printed, of which the first has the given number
-pub record Walk (input l : List ℕ) (at : ℕ) (here : List ℕ) (number next from : ℕ) : Type 0 where
+pub record Walk (question : Question) (input l : List ℕ) (at : ℕ) (here : List ℕ) (number next from : ℕ) : Type 0 where
   pub near : from ≤ length input + 1
   pub counted : number ≤ from + 1
   pub room : next + 8 * (length input - from) ≤ length here
-  pub left : Left l at (linesReport 1 (linesOf input)) here next (linesReport number (linesOf (drop from input)))
+  pub left : Left l at (linesReport question 1 (linesOf input)) here next (linesReport question number (linesOf (drop from input)))
 
-pub walk-start : (input l : List ℕ) (at : ℕ) → at + 8 * length input ≤ length l → Walk input l at l 1 at 0
-walk-start input l at h = record { near = omega arith; counted = omega arith; room = omega arith; left = left-start l at (linesReport 1 (linesOf input)) }
+pub walk-start : (question : Question) (input l : List ℕ) (at : ℕ) → at + 8 * length input ≤ length l → Walk question input l at l 1 at 0
+walk-start question input l at h = record { near = omega arith; counted = omega arith; room = omega arith; left = left-start l at (linesReport question 1 (linesOf input)) }
 
-module _ (input l : List ℕ) (at : ℕ) (here : List ℕ) (number next from : ℕ) (w : Walk input l at here number next from) where
-  pub walk-end : length input ≤ from → Put l at (linesReport 1 (linesOf input)) next here
+module _ (question : Question) (input l : List ℕ) (at : ℕ) (here : List ℕ) (number next from : ℕ) (w : Walk question input l at here number next from) where
+  pub walk-end : length input ≤ from → Put l at (linesReport question 1 (linesOf input)) next here
   unfolding linesReport linesOf
   walk-end h = left-end (rw (drop-of-length-le input {i = from} h) at (w .left))
 
@@ -46,8 +47,8 @@ module _ (input l : List ℕ) (at : ℕ) (here : List ℕ) (number next from : �
     lines-are : linesOf (drop from input) ≡ take (end - from) (drop from input) ∷ linesOf (drop (end + 1) input)
     lines-are = rw (line-is, ← rest-is) (lines-first (drop from input) (rw length-drop (omega arith)))
 
-    report-is : linesReport number (linesOf (drop from input))
-        ≡ lineReport number (lineMeaning (take (end - from) (drop from input))) ++ linesReport (number + 1) (linesOf (drop (end + 1) input))
+    report-is : linesReport question number (linesOf (drop from input))
+        ≡ lineReport question number (lineMeaning (take (end - from) (drop from input))) ++ linesReport question (number + 1) (linesOf (drop (end + 1) input))
     unfolding linesReport
     report-is = rw lines-are
 
@@ -55,19 +56,19 @@ module _ (input l : List ℕ) (at : ℕ) (here : List ℕ) (number next from : �
     taken : ℕ
     taken = (length input - from) - (length input - (end + 1))
 
-    line-small : length input ≤ 65536 → length (lineReport number (lineMeaning (take (end - from) (drop from input)))) ≤ 8 * taken
+    line-small : length input ≤ 65536 → length (lineReport question number (lineMeaning (take (end - from) (drop from input)))) ≤ 8 * taken
     unfolding taken
     line-small b =
-        line-room (take (end - from) (drop from input)) number taken (omega (arith, w .counted)) (omega (arith, end-in input from end e h))
+        line-room question (take (end - from) (drop from input)) number taken (omega (arith, w .counted)) (omega (arith, end-in input from end e h))
         (rw length-take (omega (arith, end-in input from end e h)))
 
-    pub walk-room : length input ≤ 65536 → next + length (lineReport number (lineMeaning (take (end - from) (drop from input)))) ≤ length here
+    pub walk-room : length input ≤ 65536 → next + length (lineReport question number (lineMeaning (take (end - from) (drop from input)))) ≤ length here
     unfolding taken
     walk-room b = omega (arith, line-small b, w .room)
 
     pub walk-next : length input ≤ 65536 → (here′ : List ℕ) (p : ℕ)
-        → Put here next (lineReport number (lineMeaning (take (end - from) (drop from input)))) p here′
-        → Walk input l at here′ (number + 1) p (end + 1)
+        → Put here next (lineReport question number (lineMeaning (take (end - from) (drop from input)))) p here′
+        → Walk question input l at here′ (number + 1) p (end + 1)
     unfolding taken
     walk-next b here′ p f =
         record {

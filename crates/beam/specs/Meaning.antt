@@ -1,4 +1,5 @@
--- Document 01, program `beamat`: what a line of the input means, and how the input is cut into lines.
+-- Document 01, program `beamat`: what a line of the input means, and how the input is cut into lines. Of `heldat` too: "the rest as `beamat`"
+-- (request Q-6).
 -- Assumes nothing.
 use Prim.Native.Nat.{ℕ}
 use mathlib.Core.Bool.{cond, _&&_}
@@ -9,7 +10,7 @@ use Rattle.machine.specs.declared.ZXMachine.{ZXMachine}
 use Rattle.machine.specs.declared.ZXMachine.the-variants.{Sinclair48K, Sinclair128K}
 use Rattle.machine.specs.Numbers.{specsOf}
 use Rattle.beam.specs.declared.Line.{Line}
-use Rattle.beam.specs.declared.Line.the-variants.{Beam, Bad}
+use Rattle.beam.specs.declared.Line.the-variants.{Clock, Bad}
 use Rattle.beam.specs.Decimal.{decimal, value, sameText, startsWith}
 
 -- "48 or 128"
@@ -27,7 +28,7 @@ lineText m clock = opening m ++ decimal clock
 -- "decimal without leading zeros, below the frame": a text means a clock if it is the spelling of its own value, below the frame
 unfoldable pub clockMeaning : ZXMachine → List ℕ → Line
 clockMeaning m text =
-    cond (sameText text (decimal (value text)) && ltb (value text) (specsOf m .frame)) (Beam m (value text)) Bad
+    cond (sameText text (decimal (value text)) && ltb (value text) (specsOf m .frame)) (Clock m (value text)) Bad
 
 abbrev pub behind : ZXMachine → List ℕ → List ℕ
 behind m line = drop (length (opening m)) line

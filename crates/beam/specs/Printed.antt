@@ -1,15 +1,19 @@
--- Document 01, program `beamat`: what is printed for a line of the input.
+-- Document 01, program `beamat`, and request Q-6, program `heldat`: what is printed for a line of the input.
 -- Assumes nothing.
 use Prim.Native.Nat.{ℕ}
 use mathlib.Core.Bool.{Bool, cond}
 use mathlib.Core.List.{List, [], _∷_, _++_}
 use Rattle.machine.specs.declared.ZXMachine.{ZXMachine}
+use Rattle.machine.specs.declared.Delay.{Delay}
+use Rattle.machine.specs.declared.Delay.the-variants.{Held, Outside}
 use Rattle.machine.specs.declared.BorderPlace.{BorderPlace}
 use Rattle.machine.specs.declared.BorderPlace.the-variants.{At, FrameEnd}
 use Rattle.machine.specs.Numbers.{specsOf}
-use Rattle.machine.specs.Timing.{delay, blocksAt, borderAt, frameEnd, interrupt}
+use Rattle.machine.specs.Timing.{delayAt, delay, firstColumn, blocksAt, borderAt, frameEnd, interrupt}
+use Rattle.beam.specs.declared.Question.{Question}
+use Rattle.beam.specs.declared.Question.the-variants as asks
 use Rattle.beam.specs.declared.Line.{Line}
-use Rattle.beam.specs.declared.Line.the-variants.{Beam, Bad}
+use Rattle.beam.specs.declared.Line.the-variants.{Clock, Bad}
 use Rattle.beam.specs.Decimal.{decimal}
 use Rattle.beam.specs.Meaning.{model}
 
@@ -43,7 +47,21 @@ unfoldable pub spaced : List ℕ → List ℕ
 spaced [] = 10 ∷ []
 spaced (n ∷ ns) = 32 ∷ (decimal n ++ spaced ns)
 
--- "prints .. for each line its fields"; "`?` gives a bad line's number": the bytes 63 and 32, the number, and a newline
-abbrev pub lineReport : ℕ → Line → List ℕ
-lineReport number (Beam m clock) = decimal (model m) ++ spaced (fields m clock)
-lineReport number Bad = 63 ∷ 32 ∷ (decimal number ++ (10 ∷ []))
+-- " outside", and a newline
+abbrev pub outside : List ℕ
+outside = 32 ∷ 111 ∷ 117 ∷ 116 ∷ 115 ∷ 105 ∷ 100 ∷ 101 ∷ 10 ∷ []
+
+-- "`machine clock outside` or `machine clock line x column clocks` with the first column of the pair": those behind the machine
+abbrev pub heldLine : ℕ → Delay → List ℕ
+heldLine clock (Held line x clocks) = spaced (clock ∷ line ∷ x ∷ firstColumn x ∷ clocks ∷ [])
+heldLine clock Outside = 32 ∷ (decimal clock ++ outside)
+
+-- what is answered behind the machine: `beamat`'s fields, or `heldat`'s
+abbrev pub answerTo : Question → ZXMachine → ℕ → List ℕ
+answerTo asks.Beam m clock = spaced (fields m clock)
+answerTo asks.Held m clock = heldLine clock (delayAt (specsOf m) clock)
+
+-- "prints .. for each line its fields"; "`?` gives a bad line's number": the bytes 63 and 32, the number, and a newline; "bad lines .. as `beamat`"
+abbrev pub lineReport : Question → ℕ → Line → List ℕ
+lineReport question number (Clock m clock) = decimal (model m) ++ answerTo question m clock
+lineReport question number Bad = 63 ∷ 32 ∷ (decimal number ++ (10 ∷ []))

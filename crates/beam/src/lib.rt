@@ -1,21 +1,30 @@
-// What it is: the text of program `beamat`, from the bytes it reads to the bytes it prints.
-// What it promises: `report` leaves exactly the report that document 01 describes, for every input and every lent slice; it asks nothing of its caller.
+// What it is: the text of programs `beamat` and `heldat`, from the bytes they read to the bytes they print.
+// What it promises: `report` leaves exactly the report that document 01 describes of `beamat`, or request Q-6 of `heldat`, for every input and every lent slice; it asks nothing of its caller.
 // Where its definitions stand: specs/Decimal.antt (spelling of a number), specs/Meaning.antt (lines and what they mean), specs/Printed.antt (what a line prints), specs/Whole.antt (the whole report).
 ghost use mathlib.Core.Path.{_≡_};
 ghost use mathlib.Core.List.{[], _∷_, _++_};
 ghost use Prim.Native.Nat.{_+_, _*_, _-_, _≤_, _<_};
 ghost use lib.ListN.{length, drop};
+ghost use Rattle.machine.specs.Numbers.{specsOf};
+ghost use Rattle.machine.specs.Timing.{delayAt, firstColumn};
 ghost use Rattle.beam.specs.Decimal.{decimal, startsWith};
 ghost use Rattle.beam.specs.Meaning.{model, clockMeaning, lineMeaning, linesOf};
-ghost use Rattle.beam.specs.Printed.{flag, fields, spaced, lineReport};
-ghost use Rattle.beam.specs.Whole.{linesReport, reported, reportedInto};
+ghost use Rattle.beam.specs.Printed.{flag, fields, spaced, heldLine, answerTo, lineReport};
+ghost use Rattle.beam.specs.Whole.{title, linesReport, reported, reportedInto};
 ghost use Rattle.beam.specs.Inner.{lineLength, Put};
 use machine::BorderPlace;
+use machine::Delay;
 use machine::ZXMachine;
 
-// What a line of the input asks for.
+// What is asked of each clock: where the beam is (program `beamat`), or whether the Z80 is held there and why (program `heldat`).
+pub enum Question {
+    Beam,
+    Held,
+}
+
+// What a line of the input asks for: a machine and a clock of its frame.
 pub enum Line {
-    Beam(ZXMachine, u32),
+    Clock(ZXMachine, u32),
     Bad,
 }
 
@@ -27,9 +36,9 @@ pub enum Reported {
 
 // Puts the report of an input at the start of out. The room asked is 11 bytes and 8 for each byte of the input, or 7 where
 // the input is too long; where out has less, it stays as it was.
-pub fn report(input: &[u8], out: &mut [u8]) -> Reported
-    ensures { λ r. ⌜ r ≡ reported (now (input .entry)) (now (out .entry)) ⌝ }
-    ensures { λ _. ⌜ now (out .exit) ≡ reportedInto (now (input .entry)) (now (out .entry)) ⌝ }
+pub fn report(question: Question, input: &[u8], out: &mut [u8]) -> Reported
+    ensures { λ r. ⌜ r ≡ reported question (now (input .entry)) (now (out .entry)) ⌝ }
+    ensures { λ _. ⌜ now (out .exit) ≡ reportedInto question (now (input .entry)) (now (out .entry)) ⌝ }
 {
     if 65536 < input.len() {
         if out.len() < 7 {
@@ -42,9 +51,19 @@ pub fn report(input: &[u8], out: &mut [u8]) -> Reported
     if out.len() < room {
         return Reported::NoRoom;
     }
-    let at = put(b"ULB beam 1\n", out, 0);
-    let end = put_lines(input, out, at);
+    let at = put_title(question, out);
+    let end = put_lines(question, input, out, at);
     Reported::Done(end)
+}
+
+fn put_title(question: Question, out: &mut [u8]) -> usize
+    requires { ⌜ 11 ≤ length (now out) ⌝ }
+    ensures { λ r. ⌜ Put (now (out .entry)) 0 (title question) r (now (out .exit)) ⌝ }
+{
+    match question {
+        Question::Beam => put(b"ULB beam 1\n", out, 0),
+        Question::Held => put(b"ULB held 1\n", out, 0),
+    }
 }
 
 // What a line means.
@@ -111,7 +130,7 @@ fn clock_meaning(m: ZXMachine, text: &[u8]) -> Line
         i += 1;
     }
     if v < frame {
-        Line::Beam(m, v)
+        Line::Clock(m, v)
     } else {
         Line::Bad
     }
@@ -133,10 +152,10 @@ fn line_end(text: &[u8], from: usize) -> usize
 }
 
 // What is printed for every line of the input.
-fn put_lines(input: &[u8], out: &mut [u8], at: usize) -> usize
+fn put_lines(question: Question, input: &[u8], out: &mut [u8], at: usize) -> usize
     requires { ⌜ length (now input) ≤ 65536 ⌝ }
     requires { ⌜ at + 8 * length (now input) ≤ length (now out) ⌝ }
-    ensures { λ r. ⌜ Put (now (out .entry)) at (linesReport 1 (linesOf (now (input .entry)))) r (now (out .exit)) ⌝ }
+    ensures { λ r. ⌜ Put (now (out .entry)) at (linesReport question 1 (linesOf (now (input .entry)))) r (now (out .exit)) ⌝ }
 {
     let mut number: u32 = 1;
     let mut next = at;
@@ -144,30 +163,64 @@ fn put_lines(input: &[u8], out: &mut [u8], at: usize) -> usize
     while from < input.len() {
         let end = line_end(input, from);
         let line = &input[from..end];
-        next = put_line(line, number, out, next);
+        next = put_line(question, line, number, out, next);
         number += 1;
         from = end + 1;
     }
     next
 }
 
-fn put_line(line: &[u8], number: u32, out: &mut [u8], at: usize) -> usize
-    requires { ⌜ at + length (lineReport number (lineMeaning (now line))) ≤ length (now out) ⌝ }
-    ensures { λ r. ⌜ Put (now (out .entry)) at (lineReport number (lineMeaning (now (line .entry)))) r (now (out .exit)) ⌝ }
+fn put_line(question: Question, line: &[u8], number: u32, out: &mut [u8], at: usize) -> usize
+    requires { ⌜ at + length (lineReport question number (lineMeaning (now line))) ≤ length (now out) ⌝ }
+    ensures { λ r. ⌜ Put (now (out .entry)) at (lineReport question number (lineMeaning (now (line .entry)))) r (now (out .exit)) ⌝ }
 {
     match line_meaning(line) {
-        Line::Beam(m, clock) => put_beam(m, clock, out, at),
+        Line::Clock(m, clock) => put_answer(question, m, clock, out, at),
         Line::Bad => put_bad(number, out, at),
     }
 }
 
+// The machine's number, and behind it what the question asks for.
+fn put_answer(question: Question, m: ZXMachine, clock: u32, out: &mut [u8], at: usize) -> usize
+    requires { ⌜ at + length (decimal (model m) ++ answerTo question m clock) ≤ length (now out) ⌝ }
+    ensures { λ r. ⌜ Put (now (out .entry)) at (decimal (model m) ++ answerTo question m clock) r (now (out .exit)) ⌝ }
+{
+    let next = put_decimal(model_of(m), out, at);
+    match question {
+        Question::Beam => put_beam(m, clock, out, next),
+        Question::Held => put_held(m, clock, out, next),
+    }
+}
+
 fn put_beam(m: ZXMachine, clock: u32, out: &mut [u8], at: usize) -> usize
-    requires { ⌜ at + length (decimal (model m) ++ spaced (fields m clock)) ≤ length (now out) ⌝ }
-    ensures { λ r. ⌜ Put (now (out .entry)) at (decimal (model m) ++ spaced (fields m clock)) r (now (out .exit)) ⌝ }
+    requires { ⌜ at + length (spaced (fields m clock)) ≤ length (now out) ⌝ }
+    ensures { λ r. ⌜ Put (now (out .entry)) at (spaced (fields m clock)) r (now (out .exit)) ⌝ }
 {
     let numbers = fields_of(m, clock);
-    let next = put_decimal(model_of(m), out, at);
-    put_spaced(&numbers, out, next)
+    put_spaced(&numbers, out, at)
+}
+
+fn put_held(m: ZXMachine, clock: u32, out: &mut [u8], at: usize) -> usize
+    requires { ⌜ at + length (heldLine clock (delayAt (specsOf m) clock)) ≤ length (now out) ⌝ }
+    ensures { λ r. ⌜ Put (now (out .entry)) at (heldLine clock (delayAt (specsOf m) clock)) r (now (out .exit)) ⌝ }
+{
+    match m.contention(clock) {
+        Delay::Held { line, x, clocks } => {
+            let numbers = held_fields(clock, line, x, clocks);
+            put_spaced(&numbers, out, at)
+        }
+        Delay::Outside => {
+            let next = put_field(clock, out, at);
+            put(b" outside\n", out, next)
+        }
+    }
+}
+
+// The column is the first of the two that are fetched at x.
+fn held_fields(clock: u32, line: u32, x: u32, clocks: u32) -> [u32; 5]
+    ensures { λ r. ⌜ r ≡ clock ∷ line ∷ x ∷ firstColumn x ∷ clocks ∷ [] ⌝ }
+{
+    [clock, line, x, 2 * (x / 8), clocks]
 }
 
 fn put_bad(number: u32, out: &mut [u8], at: usize) -> usize
@@ -198,7 +251,8 @@ fn flag_of(on: bool) -> u32
 fn fields_of(m: ZXMachine, clock: u32) -> [u32; 8]
     ensures { λ r. ⌜ r ≡ fields m clock ⌝ }
 {
-    let held = m.contention_clocks(clock);
+    let delay = m.contention(clock);
+    let held = delay.clocks();
     let blocks = m.blocks_count(clock);
     let on = flag_of(machine::int_active(clock));
     match m.next_border_pixel(clock) {

@@ -1,18 +1,24 @@
-// What it is: runs what program `beamat` does on each file of data/, and prints each file's name before its report.
+// What it is: runs what programs `beamat` and `heldat` do on each file of data/, and prints each file's name before its two reports.
 // What it promises: it is safe and ends; what it prints is compared with the file `stdout`.
 // Where its definitions stand: in beam, specs/.
+use beam::Question;
 use libc::STDOUT_FILENO;
 
 fn run(name: &[u8]) {
     io::write_all(STDOUT_FILENO, b"# ");
     io::write_all(STDOUT_FILENO, name);
     io::write_all(STDOUT_FILENO, b"\n");
+    ask(name, Question::Beam);
+    ask(name, Question::Held);
+}
+
+fn ask(name: &[u8], question: Question) {
     let fd = os::open_read(name);
     if fd < 0 {
         os::fail(name);
         return;
     }
-    beam_io::answer(fd);
+    beam_io::answer(fd, question);
     libc::close(fd);
 }
 

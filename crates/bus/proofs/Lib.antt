@@ -1,6 +1,7 @@
 pub mod Runs
 pub mod OneStep
 pub mod PortClocks
+pub mod GoesOn
 pub mod OwnClocks
 pub mod Pages
 pub mod Flashing

@@ -8,8 +8,9 @@ use native.Mathlib.Nat.{add-assoc, add-zero, zero-add}
 use native.Mathlib.Omega.{arith}
 use Rattle.laws.proofs.Cases.{split}
 use Rattle.machine.specs.declared.ZXMachine.{ZXMachine}
+use Rattle.machine.specs.declared.Delay.{Delay}
 use Rattle.machine.specs.Numbers.{specsOf}
-use Rattle.machine.specs.Timing.{delay, blockPosition}
+use Rattle.machine.specs.Timing.{delayAt, clocksHeld, delay, blockPosition}
 use Rattle.machine.proofs.Numbered.{regular}
 use Rattle.machine.proofs.Delays.{delay-inside}
 use Rattle.machine.proofs.Rising.{blocks-mono, blocks-at-end, position-before}
@@ -241,12 +242,12 @@ module _ (m : ZXMachine) (a b : ℕ) (w : World) where
 
 module _ (t : Turn) (addr n : ℕ) (inside : t .world .core .clock < specsOf (t .machine) .frame)
     (behind : t .world .screen .painted ≤ blockPosition (specsOf (t .machine)) (t .world .core .clock)) where
-  either-way : (x : Bool) (d : ℕ) → d ≡ delay (specsOf (t .machine)) (t .world .core .clock)
-      → ran (tick n ∷ []) (ran (cond x (step (due d) 0 ∷ []) []) t) ≡ ran (tick (cond x d 0 + n) ∷ []) t
+  either-way : (x : Bool) (d : Delay) → d ≡ delayAt (specsOf (t .machine)) (t .world .core .clock)
+      → ran (tick n ∷ []) (ran (cond x (step (due d) 0 ∷ []) []) t) ≡ ran (tick (cond x (clocksHeld d) 0 + n) ∷ []) t
   unfolding ran
   either-way true d e =
       ap (λ (u : Turn). turned (tick n) u) (whole-step (due d) 0 t)
-      ∙ rw add-zero (steps-merge d n t (omega (arith, delay-inside (specsOf (t .machine)) (regular (t .machine)) (t .world .core .clock) inside)) behind)
+      ∙ rw add-zero (steps-merge (clocksHeld d) n t (omega (arith, ap clocksHeld e, delay-inside (specsOf (t .machine)) (regular (t .machine)) (t .world .core .clock) inside)) behind)
   either-way false d e = rw zero-add
 
   -- A WAIT AT AN ADDRESS, the delay and then n clocks, is one plain wait of both.
@@ -254,4 +255,4 @@ module _ (t : Turn) (addr n : ℕ) (inside : t .world .core .clock < specsOf (t 
   unfolding delayed
   address-merge =
       ran-then (t .machine) (delayed (t .machine) addr) (plainWait n) t refl
-      ∙ either-way (contended (t .machine) addr (t .world .core)) (delay (specsOf (t .machine)) (t .world .core .clock)) refl
+      ∙ either-way (contended (t .machine) addr (t .world .core)) (delayAt (specsOf (t .machine)) (t .world .core .clock)) refl

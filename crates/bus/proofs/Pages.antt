@@ -12,12 +12,13 @@ use Rattle.laws.proofs.Cases.{by-bool, split, and-left}
 use Rattle.machine.specs.declared.ZXMachine.{ZXMachine}
 use Rattle.machine.specs.declared.ZXMachine.the-variants.{Sinclair48K, Sinclair128K}
 use Rattle.machine.specs.Numbers.{specsOf}
-use Rattle.machine.specs.Timing.{delay}
+use Rattle.machine.specs.Timing.{delayAt, delay}
 use Rattle.machine.specs.Contended.{portContended}
 use Rattle.machine.specs.Pages.{Page, pageOf, pageDelay}
 use Rattle.machine.proofs.Numbered.{regular}
 use Rattle.machine.proofs.Agree.{same, agree-delay}
 use Rattle.machine.proofs.Bounds.{delay-small}
+use Rattle.machine.proofs.Delays.{delay-left-over}
 use Rattle.memory.specs.declared.Paged.{Paged}
 use Rattle.memory.specs.declared.Paged.the-variants as paging
 use Rattle.memory.specs.Paging.{addrContended, write7ffd}
@@ -61,17 +62,12 @@ module _ (m : ZXMachine) where
 
   -- What is left of a call past the frame's end has no delay, counted anew or on: so the two readings of the pages there are one.
   pub past-end : (t : ℕ) → t < specsOf m .frame + specsOf m .contention → pageDelay (pageOf m) (inFrame (pageOf m) t) ≡ pageDelay (pageOf m) t
-  unfolding anew delay
+  unfolding anew
   past-end t h =
       let s = specsOf m in
-      let g = regular m .heldInFrame in
       rw (same-due t, in-frame t)
       (split (s .frame) t
-      (λ k.
-      let before = lt-ltb (t - s .frame) (s .contention) (omega arith) in
-      let begun = le-ltb t (s .contention) (omega arith) in
-      let over = le-leb (s .contention + 192 * s .line) t (omega arith) in
-      rw (le-ltb t (s .frame) k, same-due (t - s .frame)) (simp (before, begun, over)))
+      (λ k. rw (le-ltb t (s .frame) k, same-due (t - s .frame)) (delay-left-over s (regular m) t k (omega arith)))
       (λ k. rw (lt-ltb t (s .frame) k) (same-due t)))
 
   -- a step moves the core's clock as the pages count
@@ -121,15 +117,15 @@ module _ (m : ZXMachine) (port : ℕ) where
   first-is c true h e =
       let s = specsOf m in
       let d = delay s (c .clock) in
-      let c₁ = inCore m (step (due d) 0) c in
+      let c₁ = inCore m (step (due (delayAt s (c .clock))) 0) c in
       let small : d + 0 + 1 < s .frame = omega (arith, delay-small s (c .clock), frame-long m) in
       let one : d + 0 + 1 ≡ d + 1 = omega arith in
       record {
         clocks = rw (e, same-due m (c .clock)) (omega arith);
         clock =
             rw (e, same-due m (c .clock), in-frame m (c .clock + (d + 1)))
-            (step-clock m free 1 c₁ ∙ rw (step-clock m (due d) 0 c, anew-twice (s .frame) (c .clock) (d + 0) 1 h small, one));
-        paging = rw e (step-paging m free 1 c₁ ∙ step-paging m (due d) 0 c);
+            (step-clock m free 1 c₁ ∙ rw (step-clock m (due (delayAt s (c .clock))) 0 c, anew-twice (s .frame) (c .clock) (d + 0) 1 h small, one));
+        paging = rw e (step-paging m free 1 c₁ ∙ step-paging m (due (delayAt s (c .clock))) 0 c);
       }
   first-is c false h e =
       record {
@@ -139,9 +135,9 @@ module _ (m : ZXMachine) (port : ℕ) where
       }
 
   -- a held step is a cycle, and leaves the clock where the cycle ends
-  cycle-end : (n : ℕ) (c : Core) → inCore m (step (due (delay (specsOf m) (c .clock))) n) c .clock ≡ endOf (pageOf m) (C n) (c .clock)
+  cycle-end : (n : ℕ) (c : Core) → inCore m (step (due (delayAt (specsOf m) (c .clock))) n) c .clock ≡ endOf (pageOf m) (C n) (c .clock)
   cycle-end n c =
-      rw (same-due m (c .clock), in-frame m (c .clock + (delay (specsOf m) (c .clock) + n))) (step-clock m (due (delay (specsOf m) (c .clock))) n c)
+      rw (same-due m (c .clock), in-frame m (c .clock + (delay (specsOf m) (c .clock) + n))) (step-clock m (due (delayAt (specsOf m) (c .clock))) n c)
 
   -- the last part and the final step
   last-is : (c : Core) (held reset : Bool) → contended m port c ≡ held → portContended m port ≡ reset
@@ -151,8 +147,8 @@ module _ (m : ZXMachine) (port : ℕ) where
   last-is c false true e f = rw (f, same-due m (c .clock)) (omega arith)
   last-is c true false e f =
       let s = specsOf m in
-      let c₁ = inCore m (step (due (delay s (c .clock))) 1) c in
-      let c₂ = inCore m (step (due (delay s (c₁ .clock))) 1) c₁ in
+      let c₁ = inCore m (step (due (delayAt s (c .clock))) 1) c in
+      let c₂ = inCore m (step (due (delayAt s (c₁ .clock))) 1) c₁ in
       rw (f, e, ← cycle-end 1 c, ← cycle-end 1 c₁, same-due m (c .clock), same-due m (c₁ .clock), same-due m (c₂ .clock)) (omega arith)
   last-is c false false e f = rw (f, e)
 

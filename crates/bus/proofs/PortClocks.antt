@@ -5,18 +5,20 @@
 use mathlib.Core.Path.{_≡_, refl, sym, ap, _∙_}
 use mathlib.Core.List.{List, [], _∷_, _++_}
 use Prim.Native.Nat.{ℕ, _+_, _-_, _*_, _/_, _%_, _<_, _≤_}
-use native.Mathlib.Nat.{mod-add-mod, mod-eq-of-lt, div-add-mod, div-lt-iff-lt-mul, mul-le-mul-left}
+use native.Mathlib.Nat.{suc-mul, mul-le-mul-right}
 use native.Mathlib.Decide.{decLt}
 use native.Mathlib.Omega.{arith}
-use Rattle.laws.proofs.Cases.{by-bool, by-lt, by-le}
+use Rattle.laws.proofs.Cases.{by-bool}
 use Rattle.machine.specs.declared.ZXMachine.{ZXMachine}
 use Rattle.machine.specs.declared.ZXMachine.the-variants.{Sinclair48K}
 use Rattle.machine.specs.declared.ZXSpecs.{ZXSpecs}
+use Rattle.machine.specs.declared.Delay.{Delay}
 use Rattle.machine.specs.Numbers.{specsOf, Regular}
-use Rattle.machine.specs.Timing.{delayInLine, delay}
+use Rattle.machine.specs.Timing.{delayInLine, delayAt, clocksHeld, delay}
+use Rattle.machine.specs.Why.{InPicture}
 use Rattle.machine.specs.Contended.{portContended}
 use Rattle.machine.proofs.Numbered.{regular}
-use Rattle.machine.proofs.Pattern.{worked-out}
+use Rattle.machine.proofs.Why.{by-why, number-in}
 use Rattle.machine.proofs.Bounds.{delay-small}
 use Rattle.memory.specs.declared.Paged.{Paged}
 use Rattle.memory.specs.declared.Paged.the-variants as paging
@@ -33,48 +35,30 @@ use Rattle.bus.proofs.Runs.{core-append, clocksIn, clocks-append, clock
 
 -- ---- delays
 
-held-due : (x : ℕ) → 0 < delayInLine x → (x < 128) × (delayInLine x + x % 8 ≡ 6)
-held-due x =
-    rw (worked-out x) (by-le (λ (d : ℕ). 0 < d → (x < 128) × (d + x % 8 ≡ 6)) 128 x (λ h p. absurd (omega arith)) (λ h p. (h, omega arith)))
+module _ (s : ZXSpecs) (g : Regular s) (t : ℕ) where
+  -- where a delay is due, the clock lies in the picture, and the delay leads to place 6 of the pattern
+  record Due (d : ℕ) : Type 0 where
+    line : ℕ
+    x : ℕ
+    inside : InPicture s t line x
+    ends : d + x % 8 ≡ 6
 
-held-none : (x : ℕ) → x % 8 ≡ 7 → delayInLine x ≡ 0
-held-none x e = rw (worked-out x) (by-le (λ (d : ℕ). d ≡ 0) 128 x (λ h. refl) (λ h. omega arith))
-
-mod-add-small : (a k n : ℕ) → a % n + k < n → (a + k) % n ≡ a % n + k
-mod-add-small a k n h = sym (mod-add-mod a n k) ∙ mod-eq-of-lt h
-
-module _ (s : ZXSpecs) where
-  -- where a delay is due, the clock lies on one of the 192 lines, in its first 128 clocks, and the delay leads to place 6 of the pattern
-  record Due (t d : ℕ) : Type 0 where
-    from : s .contention ≤ t
-    before : t < s .contention + 192 * s .line
-    inside : (t - s .contention) % s .line < 128
-    ends : d + (t - s .contention) % s .line % 8 ≡ 6
-
-  is-due : (t : ℕ) → 0 < delay s t → Due t (delay s t)
-  unfolding delay
-  is-due t =
-      by-lt (λ (d : ℕ). 0 < d → Due t d) t (s .contention) (λ h p. absurd (omega arith))
-      (λ h. by-le (λ (d : ℕ). 0 < d → Due t d) (s .contention + 192 * s .line) t (λ k p. absurd (omega arith))
-      (λ k p. let u = held-due ((t - s .contention) % s .line) p in record { from = h; before = k; inside = u .0; ends = u .1 }))
-
-  none-at : (t : ℕ) → (s .contention ≤ t → (t - s .contention) % s .line % 8 ≡ 7) → delay s t ≡ 0
-  unfolding delay
-  none-at t e =
-      by-lt (λ (d : ℕ). d ≡ 0) t (s .contention) (λ h. refl)
-      (λ h. by-le (λ (d : ℕ). d ≡ 0) (s .contention + 192 * s .line) t (λ k. refl)
-      (λ k. held-none ((t - s .contention) % s .line) (e h)))
+  is-due : 0 < delay s t → Due (delay s t)
+  is-due =
+      by-why s (g .wide) t (λ (d : Delay). 0 < clocksHeld d → Due (clocksHeld d))
+      (λ line x i p. record { line = line; x = x; inside = i; ends = omega arith })
+      (λ n p. absurd (omega arith))
 
 module _ (s : ZXSpecs) (g : Regular s) where
   -- AFTER A DELAY AND ONE CLOCK NONE IS DUE.
   pub next-free : (t : ℕ) → 0 < delay s t → delay s (t + delay s t + 1) ≡ 0
   next-free t p =
-      let d = is-due s t p in
-      let w = g .wide in
-      let c : t + delay s t + 1 - s .contention ≡ t - s .contention + (delay s t + 1) = omega arith in
-      let moved : (t + delay s t + 1 - s .contention) % s .line ≡ (t - s .contention) % s .line + (delay s t + 1) =
-      rw c (mod-add-small (t - s .contention) (delay s t + 1) (s .line) (omega arith)) in
-      none-at s (t + delay s t + 1) (λ h. omega arith)
+      let d = is-due s g t p in
+      let i = d .inside in
+      let seven : (d .x + delay s t + 1) % 8 ≡ 7 = omega (arith, d .ends) in
+      number-in s (g .wide) (t + delay s t + 1) (d .line) (d .x + delay s t + 1)
+      (record { lines = i .lines; clocks = omega (arith, i .clocks, d .ends); at = omega (arith, i .at) })
+      ∙ omega arith
 
   -- Two delays with one clock between them come to 6 at the most.
   pub pair-small : (t u : ℕ) → (0 < delay s t → u ≡ t + delay s t + 1) → delay s t + delay s u ≤ 6
@@ -87,20 +71,15 @@ module _ (s : ZXSpecs) (g : Regular s) where
   -- A delay and one clock more end within the frame: the last contended line has clocks to spare.
   pub due-inside : (t : ℕ) → 0 < delay s t → t + delay s t + 1 < s .frame
   due-inside t p =
-      let d = is-due s t p in
-      let c = t - s .contention in
-      let l = s .line in
-      let w = g .wide in
-      let h = g .heldInFrame in
-      let e : l * (c / l) + c % l ≡ c = div-add-mod c l in
-      let q : c / l < 192 = div-lt-iff-lt-mul {k = l} {x = c} {y = 192} (omega arith) .1 (omega arith) in
-      omega (arith, mul-le-mul-left l q)
+      let d = is-due s g t p in
+      let i = d .inside in
+      omega (arith, i .at, i .clocks, d .ends, g .wide, g .heldInFrame, mul-le-mul-right (s .line) (i .lines), suc-mul (d .line) (s .line))
 
 -- ---- parts
 
 module _ (m : ZXMachine) where
   -- a step that stays within the frame
-  stays : (h : Stall) (n : ℕ) (c : Core) → c .clock + lasts h n < specsOf m .frame → inCore m (step h n) c .clock ≡ c .clock + lasts h n
+  pub stays : (h : Stall) (n : ℕ) (c : Core) → c .clock + lasts h n < specsOf m .frame → inCore m (step h n) c .clock ≡ c .clock + lasts h n
   unfolding inCore
   stays h n c k = ap (λ (r : Core). r .clock) (core-goes m (lasts h n) c (goes-on-if m (lasts h n) c k))
 
@@ -120,13 +99,13 @@ module _ (m : ZXMachine) where
       let s = specsOf m in
       by-bool (λ (os : List Op). clocksIn (os ++ (tick 1 ∷ [])) + delay s (coreAfter m (os ++ (tick 1 ∷ [])) c .clock) ≤ 7) (contended m port c)
       (λ e.
-      let c₁ = inCore m (step (due (delay s (c .clock))) 0) c in
+      let c₁ = inCore m (step (due (delayAt s (c .clock))) 0) c in
       omega (
         arith,
         pair-small s (regular m) (c .clock) (inCore m (tick 1) c₁ .clock)
             (λ p.
             let i = due-inside s (regular m) (c .clock) p in
-            let f = stays (due (delay s (c .clock))) 0 c (omega arith) in
+            let f = stays (due (delayAt s (c .clock))) 0 c (omega arith) in
             let g = stays free 1 c₁ (omega arith) in
             omega arith),
       ))
@@ -143,13 +122,13 @@ module _ (m : ZXMachine) where
       by-bool P (portContended m port) (λ e. (omega arith, omega arith))
       (λ e. by-bool P (contended m port c)
       (λ f.
-      let c₁ = inCore m (step (due (delay s (c .clock))) 1) c in
-      let c₂ = inCore m (step (due (delay s (c₁ .clock))) 1) c₁ in
+      let c₁ = inCore m (step (due (delayAt s (c .clock))) 1) c in
+      let c₂ = inCore m (step (due (delayAt s (c₁ .clock))) 1) c₁ in
       let two =
       pair-small s (regular m) (c₁ .clock) (c₂ .clock)
       (λ p.
       let i = due-inside s (regular m) (c₁ .clock) p in
-      let g = stays (due (delay s (c₁ .clock))) 1 c₁ (omega arith) in
+      let g = stays (due (delayAt s (c₁ .clock))) 1 c₁ (omega arith) in
       omega arith) in
       (omega arith, omega arith))
       (λ f. (omega arith, omega arith)))
@@ -242,7 +221,7 @@ coreAt : ℕ → Core → Core
 coreAt t c = record { clock = t; passed = c .passed; phase = c .phase; paging = c .paging; reported = c .reported; ram = c .ram }
 
 computed : (c : Core) → clocksIn (portRead Sinclair48K 0x40FF (coreAt 14335 c)) ≡ 16
-unfolding coreAt andThen delayed lastPart coreAfter inCore clocksIn clocksOf delay delayInLine
+unfolding coreAt andThen delayed lastPart coreAfter inCore clocksIn clocksOf delayAt delayInLine
 computed c = refl
 
 -- Port 40FFh read at clock 14,335 on 48K takes 16 clocks, whatever else is held: the most that any port call takes.

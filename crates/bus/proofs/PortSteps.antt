@@ -15,7 +15,7 @@ use Rattle.machine.specs.declared.ZXMachine.the-variants.{Sinclair48K, Sinclair
 use Rattle.machine.specs.declared.ZXSpecs.{ZXSpecs}
 use Rattle.machine.specs.declared.BorderPlace.the-variants.{At, FrameEnd}
 use Rattle.machine.specs.Numbers.{specsOf, Regular}
-use Rattle.machine.specs.Timing.{delay, blockPosition}
+use Rattle.machine.specs.Timing.{delayAt, delay, blockPosition}
 use Rattle.machine.specs.Contended.{portContended}
 use Rattle.machine.proofs.Numbered.{regular}
 use Rattle.machine.proofs.Bounds.{delay-small}
@@ -144,7 +144,7 @@ module _ (t : Turn) (inside : t .world .core .clock < specsOf (t .machine) .fram
   next-held x n few small =
       let s = specsOf (t .machine) in
       let d = delay-small s (t .world .core .clock + x) in
-      whole-step (due (delay s (does (t .machine) (tick x) (t .world) .core .clock))) n (turned (tick x) t)
+      whole-step (due (delayAt s (does (t .machine) (tick x) (t .world) .core .clock))) n (turned (tick x) t)
       ∙ ap (λ (k : ℕ). turned (tick (k + n)) (turned (tick x) t)) (delay-after (t .machine) x (t .world) few inside)
       ∙ short-merge x (delay s (t .world .core .clock + x) + n) t behind (omega (arith, early (t .machine) .1))
 
@@ -165,7 +165,7 @@ module _ (t : Turn) (inside : t .world .core .clock < specsOf (t .machine) .fram
         let d = delay-small s at in
         let e = delay-small s (at + heldOnce s at) in
         ran-then m (delayStep m 1) (andThen m (delayStep m 1) (delayStep m 0)) t refl
-        ∙ ap (λ (u : Turn). ranBy (andThen m (delayStep m 1) (delayStep m 0)) u) (whole-step (due (delay s at)) 1 t)
+        ∙ ap (λ (u : Turn). ranBy (andThen m (delayStep m 1) (delayStep m 0)) u) (whole-step (due (delayAt s at)) 1 t)
         ∙ ran-then m (delayStep m 1) (delayStep m 0) (turned (tick (heldOnce s at)) t) (ran-machine (tick (heldOnce s at) ∷ []) t)
         ∙ ap (λ (u : Turn). ranBy (delayStep m 0) u) (next-held (heldOnce s at) 1 (omega arith) (omega arith))
         ∙ next-held (heldOnce s at + heldOnce s (at + heldOnce s at)) 0 (omega arith) (omega arith)
@@ -180,7 +180,7 @@ module _ (t : Turn) (inside : t .world .core .clock < specsOf (t .machine) .fram
     -- THE LAST PART is one step,
     pub last-step : ranBy (lastPart m port) t ≡ turned (tick (lastClocks m held port at)) t
     unfolding lastPart lastClocks ran
-    last-step = by-three (portContended m port) (addrContended m held port) _ _ _ _ _ _ (whole-step (due (delay (specsOf m) at)) 2 t) thrice refl
+    last-step = by-three (portContended m port) (addrContended m held port) _ _ _ _ _ _ (whole-step (due (delayAt (specsOf m) at)) 2 t) thrice refl
 
     -- the final step with it,
     pub last-final : ranBy (andThen m (lastPart m port) finalStep) t ≡ turned (tick (lastClocks m held port at + 1)) t

@@ -5,7 +5,7 @@ use mathlib.Core.Bool.{Bool, cond}
 use mathlib.Core.List.{List, [], _∷_, _++_}
 use Rattle.machine.specs.declared.ZXMachine.{ZXMachine}
 use Rattle.machine.specs.Numbers.{specsOf}
-use Rattle.machine.specs.Timing.{delay}
+use Rattle.machine.specs.Timing.{delayAt}
 use Rattle.machine.specs.Contended.{portContended}
 use Rattle.memory.specs.declared.Paged.{Paged}
 use Rattle.memory.specs.declared.Paged.the-variants as paging
@@ -30,7 +30,7 @@ contended m addr c = addrContended m (c .paging) addr
 
 -- a step of the delay that is due now, and n more
 abbrev pub delayStep : ZXMachine → ℕ → Part
-delayStep m n c = step (due (delay (specsOf m) (c .clock))) n ∷ []
+delayStep m n c = step (due (delayAt (specsOf m) (c .clock))) n ∷ []
 
 -- "Plain wait: one step."
 abbrev pub plainWait : ℕ → Part

@@ -5,8 +5,9 @@ use mathlib.Core.Bool.{Bool, true, false, cond, _&&_}
 use mathlib.Core.List.{List, [], _∷_}
 use lib.Dec.{leb, eqb}
 use Rattle.machine.specs.declared.ZXMachine.{ZXMachine}
+use Rattle.machine.specs.declared.Delay.{Delay}
 use Rattle.machine.specs.Numbers.{specsOf}
-use Rattle.machine.specs.Timing.{blockPosition, borderAt}
+use Rattle.machine.specs.Timing.{clocksHeld, blockPosition, borderAt}
 use Rattle.paint.specs.Paint.{paint}
 use Rattle.border.specs.Edge.{Edge, inked, finished}
 use Rattle.memory.specs.Paging.{shownPage}
@@ -52,15 +53,15 @@ caughtUp l shows-a s =
       b = cond shows-a (paintFrom l (s .painted) (s .b)) (s .b);
     }
 
--- what a step waits out before its own clocks: nothing, where no delay is asked for, or the delay that is due
+-- what a step waits out before its own clocks: nothing, where no delay is asked for, or the delay that is due, which says why
 pub data Stall : Type 0 where
   free : Stall
-  due : ℕ → Stall
+  due : Delay → Stall
 
 -- how long a step is: its delay, if any, and its own clocks
 abbrev pub lasts : Stall → ℕ → ℕ
 lasts free n = n
-lasts (due d) n = d + n
+lasts (due d) n = clocksHeld d + n
 
 -- the operations that take no time and paint nothing: bytes stored in RAM from an offset on, a 7FFD write that is taken, and the reset of
 -- passed frames

@@ -5,7 +5,7 @@ use mathlib.Core.Bool.{Bool, false, _||_}
 use mathlib.Core.List.{List, [], _∷_, _++_}
 use Rattle.machine.specs.declared.ZXMachine.{ZXMachine}
 use Rattle.machine.specs.Numbers.{specsOf}
-use Rattle.machine.specs.Timing.{blockPosition}
+use Rattle.machine.specs.Timing.{clocksHeld, blockPosition}
 use Rattle.bus.specs.World.{Core, World}
 use Rattle.bus.specs.Time.{Stall, free, due, lasts, Op, step, colour, silent, closes, inCore, does}
 
@@ -18,7 +18,7 @@ clocksOf (silent o) = 0
 -- of these the delays, and the steps' own clocks
 abbrev pub delayIn : Stall → ℕ
 delayIn free = 0
-delayIn (due d) = d
+delayIn (due d) = clocksHeld d
 
 unfoldable pub delayOf : Op → ℕ
 delayOf (step h n) = delayIn h

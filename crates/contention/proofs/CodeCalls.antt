@@ -8,8 +8,9 @@ use native.Mathlib.Omega.{arith}
 use Rattle.laws.proofs.Cases.{by-bool}
 use Rattle.machine.specs.declared.ZXMachine.{ZXMachine}
 use Rattle.machine.specs.declared.ZXSpecs.{ZXSpecs}
+use Rattle.machine.specs.declared.Delay.{Delay}
 use Rattle.machine.specs.Numbers.{specsOf}
-use Rattle.machine.specs.Timing.{delay}
+use Rattle.machine.specs.Timing.{delayAt, clocksHeld, delay}
 use Rattle.machine.specs.Contended.{portContended}
 use Rattle.machine.proofs.Bounds.{delay-small}
 use Rattle.machine.proofs.Numbered.{regular}
@@ -22,6 +23,10 @@ use Rattle.bus.proofs.Merge.{address-merge}
 use Rattle.bus.proofs.PortSteps.{first-small, last-small}
 use Rattle.steps.specs.Turned.{Ready}
 use Rattle.contention.proofs.CodeReady.{ready-less}
+
+-- the number of the answer that the code was given is 01's
+pub number-of : (s : ZXSpecs) (clock : ℕ) (d : Delay) (n : ℕ) → d ≡ delayAt s clock → n ≡ clocksHeld d → n ≡ delay s clock
+number-of s clock d n e p = p ∙ ap clocksHeld e
 
 -- the delay at an address, by what the page test says
 module _ (x y : Bool) (test : x ≡ y) where
@@ -50,8 +55,8 @@ module _ (t : Turn) (addr n d : ℕ) (due : d ≡ dueAt (t .machine) (t .world .
   at-is u e = e ∙ ap (λ (x : ℕ). ran (tick (x + n) ∷ []) t) due ∙ sym (address-merge t addr n (r .inFrame) (r .inPlace))
 
 -- how large what the code is given can be
-pub few-is : (s : ZXSpecs) (clock d : ℕ) → d ≡ delay s clock → d ≤ 6
-few-is s clock d e = rw e (delay-small s clock)
+pub few-is : (s : ZXSpecs) (clock n : ℕ) → n ≡ delay s clock → n ≤ 6
+few-is s clock n e = rw e (delay-small s clock)
 
 module _ (m : ZXMachine) (paging port clock : ℕ) where
   pub few-due : (d : ℕ) → d ≡ dueAt m paging port clock → d ≤ 6

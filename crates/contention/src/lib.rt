@@ -18,7 +18,7 @@ fn delay_at(bus: Bus, addr: u16) -> u32
 {
     let m = bus.machine;
     if memory::addr_is_contended(m, bus.paging, addr) {
-        return m.contention_clocks(bus.clock);
+        return m.contention(bus.clock).clocks();
     }
     0
 }
@@ -54,10 +54,10 @@ fn held_thrice(m: ZXMachine, clock: u32) -> u32
     requires { ⌜ clock < 2 ^ 31 ⌝ }
     ensures { λ r. ⌜ r ≡ heldThrice (specsOf m) clock ⌝ }
 {
-    let one = m.contention_clocks(clock) + 1;
-    let next = m.contention_clocks(clock + one) + 1;
+    let one = m.contention(clock).clocks() + 1;
+    let next = m.contention(clock + one).clocks() + 1;
     let two = one + next;
-    two + m.contention_clocks(clock + two)
+    two + m.contention(clock + two).clocks()
 }
 
 // What the last part of a port call takes from a clock on.
@@ -67,7 +67,7 @@ pub fn last_clocks(bus: Bus, clock: u32, port: u16) -> u32
 {
     let m = bus.machine;
     if m.port_is_contended(port) {
-        return m.contention_clocks(clock) + 2;
+        return m.contention(clock).clocks() + 2;
     }
     if memory::addr_is_contended(m, bus.paging, port) {
         return held_thrice(m, clock);

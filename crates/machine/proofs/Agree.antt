@@ -14,8 +14,9 @@ use Rattle.machine.specs.declared.ZXMachine.{ZXMachine}
 use Rattle.machine.specs.declared.ZXMachine.the-variants.{Sinclair48K, Sinclair128K}
 use Rattle.machine.specs.declared.ZXSpecs.{ZXSpecs}
 use Rattle.machine.specs.Numbers.{specsOf}
-use Rattle.machine.specs.Timing.{pattern, delayInLine, delay, blocksCapped, blocksFrom, blocksAt, blockPosition, borderCapped, borderFrom, borderAt, borderPosition, interrupt}
+use Rattle.machine.specs.Timing.{pattern, delay, blocksCapped, blocksFrom, blocksAt, blockPosition, borderCapped, borderFrom, borderAt, borderPosition, interrupt}
 use Rattle.machine.specs.Pages.{Page, pageOf, laps, patterns, scan, lasts, interrupt48K, ticks, passed, pageDelay, pageBlocks, windowStart, pagePairs, readShift}
+use Rattle.machine.proofs.Why.{number-is}
 
 -- what the two sets of numbers of one machine have to do with each other
 pub record Same (p : Page) (s : ZXSpecs) : Type 0 where
@@ -62,7 +63,7 @@ patterns-at (suc k) (suc (suc (suc (suc (suc (suc (suc (suc y)))))))) h = let e 
 
 -- document 01's delay, c clocks after the start of k lines
 doc : ℕ → ℕ → ℕ → ℕ → ℕ
-doc k start line t = cond (ltb t start) 0 (cond (leb (start + k * line) t) 0 (delayInLine ((t - start) % line)))
+doc k start line t = cond (ltb t start) 0 (cond (leb (start + k * line) t) 0 (cond (leb 128 ((t - start) % line)) 0 (getD pattern ((t - start) % line % 8) 0)))
 
 doc-next : (k start line t : ℕ) → 0 < line → start + line ≤ t → doc k (start + line) line t ≡ doc (suc k) start line t
 unfolding doc
@@ -77,7 +78,7 @@ unfolding scan
 scan-past k start line t h = simp (le-ltb t start (omega arith), le-ltb t (start + 128) h)
 
 scan-is : (k start line t : ℕ) → 128 ≤ line → scan k start line t ≡ doc k start line t
-unfolding scan doc delayInLine
+unfolding scan doc
 scan-is zero start line t w = split start t (λ h. simp (le-ltb t start h, le-leb (start + 0 * line) t (omega arith))) (λ h. simp (lt-ltb t start h))
 scan-is (suc k) start line t w =
     split start t (λ h. split (start + 128) t (λ h₁. split (start + line) t
@@ -216,8 +217,8 @@ agree-interrupt-48K t = lasts-is 32 0 t (omega arith)
 module _ (p : Page) (s : ZXSpecs) (e : Same p s) (t : ℕ) where
   -- the page's delay is document 01's
   pub agree-delay : pageDelay p t ≡ delay s t
-  unfolding delay doc
-  agree-delay = rw (e .line, e .contention) (scan-is 192 (s .contention) (s .line) t (omega (arith, e .wide)))
+  unfolding doc
+  agree-delay = rw (e .line, e .contention) (scan-is 192 (s .contention) (s .line) t (omega (arith, e .wide)) ∙ sym (number-is s t))
 
   -- the blocks that have come at the pace of the page's pixels are document 01's block position
   pub agree-blocks : pageBlocks p t ≡ blockPosition s t

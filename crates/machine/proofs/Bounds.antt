@@ -8,18 +8,19 @@ use Rattle.machine.specs.declared.ZXSpecs.{ZXSpecs}
 use Rattle.machine.specs.declared.BlocksCount.{BlocksCount}
 use Rattle.machine.specs.declared.BorderPlace.{BorderPlace}
 use Rattle.machine.specs.declared.BorderPlace.the-variants.{At, FrameEnd}
-use Rattle.machine.specs.Timing.{delayInLine, delay, blocksCapped, blocksFrom, blocksAt, blockPosition, borderCapped, borderFrom, borderAt, borderPosition}
+use Rattle.machine.specs.Timing.{delay, blocksCapped, blocksFrom, blocksAt, blockPosition, borderCapped, borderFrom, borderAt, borderPosition}
 use Rattle.machine.proofs.Pattern.{worked-out}
+use Rattle.machine.proofs.Why.{number-is}
 
 -- no delay is over 6
-held-small : (x : ℕ) → delayInLine x ≤ 6
-held-small x = rw (worked-out x) (by-le (λ (d : ℕ). d ≤ 6) 128 x (λ h. omega arith) (λ h. omega arith))
-
 pub delay-small : (s : ZXSpecs) (t : ℕ) → delay s t ≤ 6
-unfolding delay
 delay-small s t =
-    by-lt (λ (d : ℕ). d ≤ 6) t (s .contention) (λ h. omega arith)
-    (λ h. by-le (λ (d : ℕ). d ≤ 6) (s .contention + 192 * s .line) t (λ h₁. omega arith) (λ h₁. held-small ((t - s .contention) % s .line)))
+    let x = (t - s .contention) % s .line in
+    rw (number-is s t, worked-out x)
+    (by-lt Few t (s .contention) (λ h. omega arith)
+    (λ h. by-le Few (s .contention + 192 * s .line) t (λ h₁. omega arith) (λ h₁. by-le Few 128 x (λ h₂. omega arith) (λ h₂. omega arith)))) where
+      Few : ℕ → Type 0
+      Few d = d ≤ 6
 
 -- a block count has at most 192 lines, at most 32 columns, and no column behind line 192
 pub record Small (b : BlocksCount) : Type 0 where

@@ -1,6 +1,7 @@
 pub mod Rows
 pub mod Numbered
 pub mod Pattern
+pub mod Why
 pub mod Bounds
 pub mod Delays
 pub mod Agree

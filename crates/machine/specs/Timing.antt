@@ -6,6 +6,8 @@ use mathlib.Core.List.{List, [], _∷_}
 use lib.Dec.{ltb, leb}
 use lib.ListN.{getD}
 use Rattle.machine.specs.declared.ZXSpecs.{ZXSpecs}
+use Rattle.machine.specs.declared.Delay.{Delay}
+use Rattle.machine.specs.declared.Delay.the-variants.{Held, Outside}
 use Rattle.machine.specs.declared.BlocksCount.{BlocksCount}
 use Rattle.machine.specs.declared.BorderPlace.{BorderPlace}
 use Rattle.machine.specs.declared.BorderPlace.the-variants.{At, FrameEnd}
@@ -15,16 +17,34 @@ use Rattle.machine.specs.Limits.{borderLength}
 abbrev pub pattern : List ℕ
 pattern = 6 ∷ 5 ∷ 4 ∷ 3 ∷ 2 ∷ 1 ∷ 0 ∷ 0 ∷ []
 
--- "From 128 on the delay is 0, below that it is entry x mod 8"
-unfoldable pub delayInLine : ℕ → ℕ
-delayInLine x = cond (leb 128 x) 0 (getD pattern (x % 8) 0)
+-- "entry x mod 8"
+abbrev pub entry : ℕ → ℕ
+entry x = getD pattern (x % 8) 0
+
+-- "From 128 on the delay is 0, below that it is entry x mod 8": below it the beam is in a line of the picture, and the Z80 is held for the clocks of
+-- the entry, which may be 0; "x of 128 or more included" is outside (02, Q-6)
+unfoldable pub delayInLine : ℕ → ℕ → Delay
+delayInLine line x = cond (leb 128 x) Outside (Held line x (entry x))
 
 -- "Zero before the contention origin and from 192 lines after it. Otherwise let x be the clocks since the origin modulo the line."
-unfoldable pub delay : ZXSpecs → ℕ → ℕ
-delay s clock =
-    cond (ltb clock (s .contention)) 0
-    (cond (leb (s .contention + 192 * s .line) clock) 0
-    (delayInLine ((clock - s .contention) % s .line)))
+unfoldable pub delayAt : ZXSpecs → ℕ → Delay
+delayAt s clock =
+    cond (ltb clock (s .contention)) Outside
+    (cond (leb (s .contention + 192 * s .line) clock) Outside
+    (delayInLine ((clock - s .contention) / s .line) ((clock - s .contention) % s .line)))
+
+-- the number: outside the picture it is zero
+abbrev pub clocksHeld : Delay → ℕ
+clocksHeld (Held line x clocks) = clocks
+clocksHeld Outside = 0
+
+abbrev pub delay : ZXSpecs → ℕ → ℕ
+delay s clock = clocksHeld (delayAt s clock)
+
+-- "In the eight clocks from x - x mod 8 on the ULA fetches columns 2 x (x / 8) and the next one": the first of the two. That it does is a theorem
+-- (crate ports, proofs/Columns).
+abbrev pub firstColumn : ℕ → ℕ
+firstColumn x = 2 * (x / 8)
 
 -- "line 192 or later is 6,144"
 unfoldable pub blocksCapped : ℕ → ℕ → BlocksCount

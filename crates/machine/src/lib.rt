@@ -1,11 +1,11 @@
 // What it is: the timing of the two machines, after rustzx's machine/mod.rs and specs.rs: delay, block and border position, interrupt, contended pages and ports, memory sizes.
 // What it promises: at every 32-bit clock each function gives exactly what document 01's "Numbers of the two machines" says; none asks anything of its caller.
-// Where its definitions stand: specs/Numbers.antt (the table of numbers), specs/Limits.antt (lengths and limits that are no machine's own), specs/Timing.antt (the readings of a clock), specs/Contended.antt (pages and ports).
+// Where its definitions stand: specs/Numbers.antt (the table of numbers), specs/Limits.antt (lengths and limits that are no machine's own), specs/Timing.antt (the readings of a clock), specs/Contended.antt (pages and ports), specs/Why.antt (what the delay's answer says).
 ghost use mathlib.Core.Path.{_≡_};
 ghost use Prim.Native.Nat.{_/_};
 ghost use lib.Dec.{leb};
 ghost use Rattle.machine.specs.Numbers.{specsOf, Regular};
-ghost use Rattle.machine.specs.Timing.{delay, blocksCapped, blocksAt, blockPosition, borderCapped, borderAt, borderPosition, frameEnd, interrupt};
+ghost use Rattle.machine.specs.Timing.{entry, delayAt, clocksHeld, blocksCapped, blocksAt, blockPosition, borderCapped, borderAt, borderPosition, frameEnd, interrupt};
 ghost use Rattle.machine.specs.Contended.{portContended, bankContended};
 
 pub enum ZXMachine {
@@ -56,6 +56,25 @@ pub const PAGE_LENGTH: usize = 16384;
 
 pub const LONGEST_WAIT: u32 = 65535;
 
+// The delay at a clock, and why. In the picture: its line, document 01's x, and the clocks for which the Z80 is held, which may
+// be none. Outside the picture, which x of 128 or more is too, nothing is fetched and nothing held.
+pub enum Delay {
+    Held { line: u32, x: u32, clocks: u32 },
+    Outside,
+}
+
+impl Delay {
+    // 01's number.
+    pub fn clocks(self) -> u32
+        ensures { λ r. ⌜ r ≡ clocksHeld self ⌝ }
+    {
+        match self {
+            Delay::Held { line, x, clocks } => clocks,
+            Delay::Outside => 0,
+        }
+    }
+}
+
 // How many 8 x 1 blocks have been fetched: whole lines, and columns of the next one.
 pub struct BlocksCount {
     pub lines: u32,
@@ -78,10 +97,9 @@ impl ZXMachine {
         }
     }
 
-    // The clocks for which the Z80 is held at a clock of the frame. Each arm names its numbers, so that the compiler
-    // divides by a constant.
-    pub fn contention_clocks(self, clocks: u32) -> u32
-        ensures { λ r. ⌜ r ≡ delay (specsOf self) clocks ⌝ }
+    // The delay at a clock of the frame, and why. Each arm names its numbers, so that the compiler divides by a constant.
+    pub fn contention(self, clocks: u32) -> Delay
+        ensures { λ r. ⌜ r ≡ delayAt (specsOf self) clocks ⌝ }
     {
         match self {
             ZXMachine::Sinclair48K => delay_by(SPECS_48K, clocks),
@@ -171,24 +189,36 @@ impl ZXMachine {
     }
 }
 
-fn delay_by(s: ZXSpecs, clocks: u32) -> u32
+fn delay_by(s: ZXSpecs, clocks: u32) -> Delay
     requires { ⌜ Regular s ⌝ }
-    ensures { λ r. ⌜ r ≡ delay s clocks ⌝ }
+    ensures { λ r. ⌜ r ≡ delayAt s clocks ⌝ }
 {
     let origin = s.contention;
     let line = s.line;
     if clocks < origin {
-        return 0;
+        return Delay::Outside;
     }
     let end = origin + 192 * line;
     if end <= clocks {
-        return 0;
+        return Delay::Outside;
     }
-    let x = (clocks - origin) % line;
+    let c = clocks - origin;
+    let x = c % line;
     if 128 <= x {
-        return 0;
+        return Delay::Outside;
     }
-    // "6 - (x mod 8), never below 0": entry x mod 8 of the table of eight, at every x (proofs/Pattern.antt), and no table is read.
+    let row = c / line;
+    Delay::Held {
+        line: row,
+        x,
+        clocks: held_by(x),
+    }
+}
+
+// "6 - (x mod 8), never below 0": entry x mod 8 of the table of eight, at every x (proofs/Pattern.antt), and no table is read.
+fn held_by(x: u32) -> u32
+    ensures { λ r. ⌜ r ≡ entry x ⌝ }
+{
     let place = x % 8;
     if place < 6 { 6 - place } else { 0 }
 }

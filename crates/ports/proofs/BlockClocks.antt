@@ -27,7 +27,8 @@ module _ (p : Page) (s : ZXSpecs) (e : Same p s) (w : Regular s) (row column : �
       let c : s .block + row * s .line + column * 4 ≡ blockClock s row column = omega arith in
       block-reached s w t n (omega arith) (omega arith) ∙ (rw (a, b, c) refl)
 
-  in-numbers : bitmapAt p row column ≡ s .block + row * s .line + (8 * (column / 2) + 2 * (column % 2))
+  -- the T-state of a column's bitmap byte in document 01's numbers
+  pub in-numbers : bitmapAt p row column ≡ s .block + row * s .line + (8 * (column / 2) + 2 * (column % 2))
   in-numbers = bitmap-sum p row column ∙ ap₂ (λ (x y : ℕ). x + row * y + (8 * (column / 2) + 2 * (column % 2))) (e .block) (e .line)
 
   -- THE PARTING, line by line and column by column

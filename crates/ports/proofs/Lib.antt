@@ -6,6 +6,7 @@ pub mod Bools
 pub mod Agree
 pub mod Fetches
 pub mod BlockClocks
+pub mod Columns
 pub mod Keyboards
 pub mod Ignored
 pub mod Hearing

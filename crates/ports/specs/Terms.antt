@@ -1,15 +1,16 @@
 -- Document 01's answers in the terms of the public pages (specs/Pages), so that the two can be held side by side, and where they part.
 -- Assumes nothing.
-use Prim.Native.Nat.{ℕ, _+_, _-_, _*_, _%_}
+use Prim.Native.Nat.{ℕ, _+_, _-_, _*_, _%_, _≤_, _<_}
 use mathlib.Core.Path.{_≡_}
 use mathlib.Core.Bool.{Bool, true, false, cond, not, _&&_, _||_}
 use mathlib.Core.List.{List, [], _∷_}
 use lib.Dec.{leb}
+use lib.ListN.{getD}
 use Rattle.machine.specs.declared.ZXMachine.{ZXMachine}
 use Rattle.machine.specs.declared.ZXMachine.the-variants.{Sinclair48K, Sinclair128K}
 use Rattle.machine.specs.declared.ZXSpecs.{ZXSpecs}
 use Rattle.machine.specs.Numbers.{specsOf}
-use Rattle.machine.specs.Timing.{blockPosition}
+use Rattle.machine.specs.Timing.{firstColumn, blockPosition}
 use Rattle.machine.specs.Pages.{Page}
 use Rattle.ports.specs.declared.Ay.{Ay}
 use Rattle.ports.specs.declared.Ay.the-variants as ay
@@ -22,7 +23,7 @@ use Rattle.ports.specs.declared.FloatingAddress.the-variants as address
 use Rattle.ports.specs.Order.{ayByte}
 use Rattle.ports.specs.Hearers.{Hearer, extender, aySelect, ayWrite, border, paging}
 use Rattle.ports.specs.Floating.{floatingPlace, floatingAddress}
-use Rattle.ports.specs.Pages.{isSet, hasPaging, Heard, Answerer, ula, register, nobody, Fetch, idle, bitmapByte, attributeByte, bitmapAt, attributeAt, Seen, nothing, byteOf}
+use Rattle.ports.specs.Pages.{isSet, hasPaging, Heard, Answerer, ula, register, nobody, Fetch, idle, bitmapByte, attributeByte, pageFloating, bitmapAt, attributeAt, Seen, nothing, byteOf}
 
 -- ---- writes
 -- who of the pages' devices hears a write by document 01: the extender is none of them
@@ -88,3 +89,19 @@ pub record Parted (p : Page) (s : ZXSpecs) (row column : ℕ) : Type 0 where
   pub evenAttribute : column % 2 ≡ 0 → attributeAt p row column ≡ blockClock s row column + 1
   pub oddBitmap : column % 2 ≡ 1 → bitmapAt p row column + 2 ≡ blockClock s row column
   pub oddAttribute : column % 2 ≡ 1 → attributeAt p row column + 1 ≡ blockClock s row column
+
+-- ---- why the Z80 is held (02, Q-6): "which column was being fetched when the Z80 was held"
+-- eight clocks of a line and two columns of it, in the pages' order: bitmap, attribute, bitmap, attribute. The eight that the delays count begin
+-- three clocks before the first of the four fetches.
+abbrev pub eightClocks : ℕ → ℕ → List Fetch
+eightClocks line column =
+    idle ∷ idle ∷ idle
+    ∷ bitmapByte line column ∷ attributeByte line column ∷ bitmapByte line (column + 1) ∷ attributeByte line (column + 1)
+    ∷ idle ∷ []
+
+-- WHAT "HELD" SAYS OF THE ULA at the clock it was asked at: in the eight clocks from x - x mod 8 on the ULA fetches columns 2 x (x / 8) and the next;
+-- a Z80 that is held goes on at the clock of the last of their four fetches; and one that is not held has come at that clock or behind it.
+pub record Fetching (p : Page) (clock line x clocks : ℕ) : Type 0 where
+  pub columns : (k : ℕ) → k < 8 → pageFloating p (clock - x % 8 + k) ≡ getD (eightClocks line (firstColumn x)) k idle
+  pub goesOn : 0 < clocks → clock + clocks ≡ attributeAt p line (firstColumn x + 1)
+  pub notHeld : clocks ≡ 0 → attributeAt p line (firstColumn x + 1) ≤ clock

@@ -1,6 +1,6 @@
 -- The Rust's timing is document 01's, at every clock: delay, block position, border position, contended ports and pages, interrupt.
 -- Assumes nothing.
-use mathlib.Core.Path.{_≡_, refl, sym, ap}
+use mathlib.Core.Path.{_≡_, refl, sym, ap, _∙_}
 use mathlib.Core.Bool.{Bool, true, false, cond, _||_}
 use mathlib.Core.List.{List}
 use Prim.Native.Nat.{ℕ, _+_, _-_, _*_, _/_, _%_, _<_}
@@ -15,8 +15,9 @@ use Rattle.machine.specs.declared.BorderPlace.the-variants.{At, FrameEnd}
 use Rattle.machine.specs.declared.BlocksCount as ours
 use Rattle.machine.specs.declared.ZXSpecs as table
 use Rattle.machine.specs.Numbers.{specsOf}
-use Rattle.machine.specs.Timing.{pattern, delayInLine, delay, blocksCapped, blocksFrom, blocksAt, borderCapped, borderFrom, borderAt, interrupt}
+use Rattle.machine.specs.Timing.{pattern, delay, blocksCapped, blocksFrom, blocksAt, borderCapped, borderFrom, borderAt, interrupt}
 use Rattle.machine.specs.Contended.{bankContended, portContended}
+use Rattle.machine.proofs.Why.{number-is}
 use Rattle.rustzx.specs.Machine.{ZXSpecs, ZXMachine, Sinclair48K, Sinclair128K, specs, contentionClocks, portIsContended, bankIsContended}
 use Rattle.rustzx.specs.Screen.{BlocksCount, inCanvas, inLine, fromClocks}
 use Rattle.rustzx.specs.Border.{Next, clocksOrigin, inHeight, inWidth, nextBorderPixel}
@@ -50,8 +51,8 @@ or-cond false b x y = refl
 
 delay-by : (o : table.ZXSpecs) (t first lines line row : ℕ) (delays : List ℕ) → first ≡ o .contention → lines ≡ 192 → line ≡ o .line → row ≡ 128 → delays ≡ pattern
     → cond (ltb t first || leb (first + lines * line) t) 0 (cond (leb row ((t - first) % line)) 0 (getD delays ((t - first) % line % 8) 0)) ≡ delay o t
-unfolding delay delayInLine
-delay-by o t first lines line row delays p q r s u = rw (p, q, r, s, u) (or-cond (ltb t (o .contention)) (leb (o .contention + 192 * o .line) t) 0 _)
+delay-by o t first lines line row delays p q r s u =
+    rw (p, q, r, s, u) (or-cond (ltb t (o .contention)) (leb (o .contention + 192 * o .line) t) 0 _) ∙ sym (number-is o t)
 
 -- contention_clocks is the delay.
 pub contention-is : (m : ZXMachine) (t : ℕ) → contentionClocks m t ≡ delay (specsOf (ourMachine m)) t

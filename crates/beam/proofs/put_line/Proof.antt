@@ -2,7 +2,8 @@
 -- Assumes nothing.
 use mathlib.Core.Path.{sym, _∙_}
 use borrow.Author.Needs.{needs}
-use Rattle.beam.proofs.Printing.{line-room, line-put}
+use Rattle.beam.specs.Printed.{lineReport}
+use Rattle.beam.proofs.Printing.{told-room, told-put}
 use Rattle.beam.proofs.put_line.Statement.{statement}
 use Rattle.beam.proofs.put_line.Tie as tie
 
@@ -12,11 +13,11 @@ line-meaning-requires c κs = search needs
 enum-known-m : tie.Need-enum-known-m
 enum-known-m c = search needs
 
-put-beam-requires : tie.Need-put-beam-requires
-put-beam-requires c κs =
+put-answer-requires : tie.Need-put-answer-requires
+put-answer-requires c κs =
     let m = c .before .before in
     let a = m .before .before .before .before .before in
-    line-room (a .args .out .now) _ (a .args .number) _ _ (sym (m .m .given .1) ∙ m .before .before .line-meaning .ensures) (a .pre)
+    told-room (lineReport (a .args .question) (a .args .number)) _ _ (sym (m .m .given .1) ∙ m .before .before .line-meaning .ensures) _ _ (a .pre)
 
 enum-told : tie.Need-enum-told
 enum-told c = search needs
@@ -25,7 +26,7 @@ put-bad-requires : tie.Need-put-bad-requires
 put-bad-requires c κs =
     let m = c .before in
     let a = m .before .before .before .before .before in
-    line-room (a .args .out .now) _ (a .args .number) _ _ (sym (m .enum-told .given .1) ∙ m .before .before .line-meaning .ensures) (a .pre)
+    told-room (lineReport (a .args .question) (a .args .number)) _ _ (sym (m .enum-told .given .1) ∙ m .before .before .line-meaning .ensures) _ _ (a .pre)
 
 same-length : tie.Need-same-length
 same-length c = search needs
@@ -34,7 +35,7 @@ returns : tie.Need-returns
 returns c =
     let m = c .before .before .before .before .before in
     let a = m .before .before .before .before .before in
-    line-put _ _ (a .args .number) _ _ (sym (m .m .given .1) ∙ m .before .before .line-meaning .ensures) _ _ (c .before .before .put-beam .ensures)
+    told-put (lineReport (a .args .question) (a .args .number)) _ _ (sym (m .m .given .1) ∙ m .before .before .line-meaning .ensures) (c .before .before .put-answer .ensures)
 
 same-length-2 : tie.Need-same-length-2
 same-length-2 c = search needs
@@ -43,7 +44,7 @@ returns-2 : tie.Need-returns-2
 returns-2 c =
     let m = c .before .before .before .before in
     let a = m .before .before .before .before .before in
-    line-put _ _ (a .args .number) _ _ (sym (m .enum-told .given .1) ∙ m .before .before .line-meaning .ensures) _ _ (c .before .before .put-bad .ensures)
+    told-put (lineReport (a .args .question) (a .args .number)) _ _ (sym (m .enum-told .given .1) ∙ m .before .before .line-meaning .ensures) (c .before .before .put-bad .ensures)
 
 pub put-line-spec : {M : Type 1} → statement M
 put-line-spec =
@@ -51,7 +52,7 @@ put-line-spec =
     (tie.spec
     line-meaning-requires
     enum-known-m
-    put-beam-requires
+    put-answer-requires
     enum-told
     put-bad-requires
     same-length

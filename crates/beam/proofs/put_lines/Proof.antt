@@ -8,13 +8,13 @@ use Rattle.beam.proofs.put_lines.Statement.{statement}
 use Rattle.beam.proofs.put_lines.Tie as tie
 
 abbrev Inv-loop : tie.InvT-loop
-Inv-loop input out₀ at number₀ next₀ from₀ out number next from = Walk input out₀ at out number next from
+Inv-loop question input out₀ at number₀ next₀ from₀ out number next from = Walk question input out₀ at out number next from
 
 abbrev μ-loop : tie.MeasureT-loop
-μ-loop input out₀ at number₀ next₀ from₀ out number next from = (length input + 1) - from
+μ-loop question input out₀ at number₀ next₀ from₀ out number next from = (length input + 1) - from
 
 loop-holds : tie.Need-loop-holds Inv-loop μ-loop
-loop-holds c = walk-start _ _ _ (search needs)
+loop-holds c = walk-start _ _ _ _ (search needs)
 
 line-end-requires : tie.Need-line-end-requires Inv-loop μ-loop
 line-end-requires c κs = search needs

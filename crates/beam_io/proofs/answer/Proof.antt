@@ -34,12 +34,12 @@ enum-known-k c = search needs
 array-share-prefix-out : tie.Need-array-share-prefix-out
 array-share-prefix-out c =
     let r = c .before .before .before .before .report .ensures in
-    done-fits _ _ _ _ (sym (c .before .k .given .1) ∙ r .0) (r .1)
+    done-fits _ _ _ _ _ (sym (c .before .k .given .1) ∙ r .0) (r .1)
 
 slice-aggregate-write-all : tie.Need-slice-aggregate-write-all
 slice-aggregate-write-all c =
     let r = c .before .before .before .before .before .report .ensures in
-    sym (length-take-le _ _ (done-fits _ _ _ _ (sym (c .before .before .k .given .1) ∙ r .0) (r .1)))
+    sym (length-take-le _ _ (done-fits _ _ _ _ _ (sym (c .before .before .k .given .1) ∙ r .0) (r .1)))
 
 write-all-requires : tie.Need-write-all-requires
 write-all-requires c κs = search needs
@@ -52,7 +52,7 @@ expect-requires c κs =
     let r = c .before .before .before in
     let i = r .before .before .before .before .read-full in
     absurd
-    (always-room _ _ (taken-within (i .result) 65537 (i .last .1 .0) (replicate {A = ℕ} 65537 0) (i .kept .1 .0) (length-replicate {A = ℕ} 65537 0)) (zeros-long 524299)
+    (always-room _ _ _ (taken-within (i .result) 65537 (i .last .1 .0) (replicate {A = ℕ} 65537 0) (i .kept .1 .0) (length-replicate {A = ℕ} 65537 0)) (zeros-long 524299)
     (sym (c .enum-told .given .1) ∙ r .report .ensures .0))
 
 returns : tie.Need-returns

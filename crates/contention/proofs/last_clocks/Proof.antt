@@ -1,5 +1,5 @@
 use native.Mathlib.Omega.{arith}
-use Rattle.contention.proofs.CodeCalls.{few-is, last-even, last-held, last-plain}
+use Rattle.contention.proofs.CodeCalls.{number-of, few-is, last-even, last-held, last-plain}
 use borrow.Author.Needs.{needs}
 use Rattle.contention.proofs.last_clocks.Statement.{statement}
 use Rattle.contention.proofs.last_clocks.Tie as tie
@@ -7,14 +7,19 @@ use Rattle.contention.proofs.last_clocks.Tie as tie
 port-is-contended-requires : tie.Need-port-is-contended-requires
 port-is-contended-requires c κs = search needs
 
-contention-clocks-requires : tie.Need-contention-clocks-requires
-contention-clocks-requires c κs = search needs
+contention-requires : tie.Need-contention-requires
+contention-requires c κs = search needs
+
+clocks-requires : tie.Need-clocks-requires
+clocks-requires c κs = search needs
 
 add-result : tie.Need-add-result
-add-result c = omega (arith, few-is _ _ _ (c .contention-clocks .ensures))
+add-result c = omega (arith, few-is _ _ _ (number-of _ _ _ _ (c .before .contention .ensures) (c .clocks .ensures)))
 
 returns : tie.Need-returns
-returns c = last-even _ _ _ _ _ (c .before .before .port-is-contended .ensures) (c .before .if1 .taken) _ (c .contention-clocks .ensures)
+returns c =
+    last-even _ _ _ _ _ (c .before .before .before .port-is-contended .ensures) (c .before .before .if1 .taken) _
+    (number-of _ _ _ _ (c .before .contention .ensures) (c .clocks .ensures))
 
 addr-is-contended-requires : tie.Need-addr-is-contended-requires
 addr-is-contended-requires c κs = search needs
@@ -33,7 +38,8 @@ last-clocks-spec =
     tie.close
     (tie.spec
     port-is-contended-requires
-    contention-clocks-requires
+    contention-requires
+    clocks-requires
     add-result
     returns
     addr-is-contended-requires

@@ -5,23 +5,8 @@ use mathlib.Core.Path.{_≡_, sym, subst}
 use mathlib.Core.Bool.{Bool, false, not}
 use lib.Dec.{T}
 use lib.Signed.{ltZ-no}
-use Rattle.beamat_cases.proofs.run.Statement.{statement}
-use Rattle.beamat_cases.proofs.run.Tie as tie
-
-slice-aggregate-write-all : tie.Need-slice-aggregate-write-all
-slice-aggregate-write-all c = search needs
-
-write-all-requires : tie.Need-write-all-requires
-write-all-requires c κs = search needs
-
-write-all-requires-2 : tie.Need-write-all-requires-2
-write-all-requires-2 c κs = search needs
-
-slice-aggregate-write-all-2 : tie.Need-slice-aggregate-write-all-2
-slice-aggregate-write-all-2 c = search needs
-
-write-all-requires-3 : tie.Need-write-all-requires-3
-write-all-requires-3 c κs = search needs
+use Rattle.beamat_cases.proofs.ask.Statement.{statement}
+use Rattle.beamat_cases.proofs.ask.Tie as tie
 
 open-read-requires : tie.Need-open-read-requires
 open-read-requires c κs = search needs
@@ -45,15 +30,10 @@ close-requires c κs = search needs
 returns-2 : tie.Need-returns-2
 returns-2 c = search needs
 
-pub run-spec : {M : Type 1} → statement M
-run-spec =
+pub ask-spec : {M : Type 1} → statement M
+ask-spec =
     tie.close
     (tie.spec
-    slice-aggregate-write-all
-    write-all-requires
-    write-all-requires-2
-    slice-aggregate-write-all-2
-    write-all-requires-3
     open-read-requires
     fail-requires
     returns
