@@ -21,3 +21,10 @@ def command(name, caller):
     emulator = tools / "bin/qemu-x86_64"
     loader = [str(tools / "lib/ld-linux-x86-64.so.2"), "--library-path", str(tools / "lib"), str(program)]
     return ([str(emulator)] if emulator.exists() else []) + loader
+
+
+def fetches(clock, x, column):
+    """The four fetches of the eight clocks that a clock of the picture is in, in their order: clock, byte and column. heldat names the first of the
+    two columns; that the fetches come three clocks into the eight is proved (crate ports, Terms.eightClocks and Columns)."""
+    first = clock - x % 8 + 3
+    return [(first, "bitmap", column), (first + 1, "attribute", column), (first + 2, "bitmap", column + 1), (first + 3, "attribute", column + 1)]

@@ -1,7 +1,7 @@
 -- The room that `report` asks for is enough, whatever is asked: a bad line prints at most 8 bytes and takes at least one of the input, and a good
 -- one prints at most 31 and takes at least four.
 -- Assumes nothing.
-use Prim.Native.Nat.{ℕ, zero, suc, _+_, _-_, _*_, _/_, _%_, _^_, _<_, _≤_}
+use Prim.Native.Nat.{ℕ, zero, suc, _+_, _-_, _*_, _%_, _^_, _<_, _≤_}
 use mathlib.Core.Path.{_≡_, refl}
 use mathlib.Core.Bool.{Bool, true, false}
 use mathlib.Core.List.{List, [], _∷_, _++_}
@@ -16,7 +16,7 @@ use Rattle.machine.specs.declared.Delay.{Delay}
 use Rattle.machine.specs.declared.BorderPlace.{BorderPlace}
 use Rattle.machine.specs.declared.BorderPlace.the-variants.{At, FrameEnd}
 use Rattle.machine.specs.Numbers.{specsOf}
-use Rattle.machine.specs.Timing.{delayAt, delay, firstColumn, blocksAt, borderAt, frameEnd, interrupt}
+use Rattle.machine.specs.Timing.{delayAt, firstColumn, borderAt, frameEnd, interrupt}
 use Rattle.machine.proofs.Numbered.{regular}
 use Rattle.machine.proofs.Why.{by-why}
 use Rattle.machine.proofs.Bounds.{delay-small, blocks-small, Within, border-within}

@@ -10,7 +10,7 @@ use Rattle.laws.proofs.Cases.{split}
 use Rattle.machine.specs.declared.ZXMachine.{ZXMachine}
 use Rattle.machine.specs.declared.Delay.{Delay}
 use Rattle.machine.specs.Numbers.{specsOf}
-use Rattle.machine.specs.Timing.{delayAt, clocksHeld, delay, blockPosition}
+use Rattle.machine.specs.Timing.{delayAt, clocksHeld, blockPosition}
 use Rattle.machine.proofs.Numbered.{regular}
 use Rattle.machine.proofs.Delays.{delay-inside}
 use Rattle.machine.proofs.Rising.{blocks-mono, blocks-at-end, position-before}

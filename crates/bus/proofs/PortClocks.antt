@@ -2,9 +2,9 @@
 -- Why 16: where a delay is due, waiting it out leads to place 6 of the pattern's eight, so that an access one clock later finds none. Of the
 -- four accesses that a call makes at most, two neighbours come to 6 clocks of delay at the most, and so the call to 6 + 6 + 4.
 -- Assumes nothing.
-use mathlib.Core.Path.{_≡_, refl, sym, ap, _∙_}
+use mathlib.Core.Path.{_≡_, refl, ap, _∙_}
 use mathlib.Core.List.{List, [], _∷_, _++_}
-use Prim.Native.Nat.{ℕ, _+_, _-_, _*_, _/_, _%_, _<_, _≤_}
+use Prim.Native.Nat.{ℕ, _+_, _-_, _%_, _<_, _≤_}
 use native.Mathlib.Nat.{suc-mul, mul-le-mul-right}
 use native.Mathlib.Decide.{decLt}
 use native.Mathlib.Omega.{arith}

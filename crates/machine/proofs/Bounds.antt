@@ -1,7 +1,7 @@
 -- How large the readings of a clock can be, over any machine's numbers.
 -- Assumes nothing.
 use mathlib.Core.Path.{_≡_, refl, sym, subst}
-use Prim.Native.Nat.{ℕ, zero, suc, _+_, _-_, _*_, _/_, _%_, _<_, _≤_}
+use Prim.Native.Nat.{ℕ, _+_, _-_, _*_, _/_, _%_, _<_, _≤_}
 use native.Mathlib.Omega.{arith}
 use Rattle.laws.proofs.Cases.{by-lt, by-le}
 use Rattle.machine.specs.declared.ZXSpecs.{ZXSpecs}

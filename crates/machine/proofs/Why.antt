@@ -11,7 +11,7 @@ use Rattle.machine.specs.declared.ZXMachine.{ZXMachine}
 use Rattle.machine.specs.declared.ZXSpecs.{ZXSpecs}
 use Rattle.machine.specs.declared.Delay.{Delay}
 use Rattle.machine.specs.declared.Delay.the-variants.{Held, Outside}
-use Rattle.machine.specs.Numbers.{specsOf, Regular}
+use Rattle.machine.specs.Numbers.{specsOf}
 use Rattle.machine.specs.Timing.{delayInLine, delayAt, clocksHeld, delay}
 use Rattle.machine.specs.Why.{InPicture, numberBefore, Why}
 use Rattle.machine.proofs.Pattern.{worked-out}
