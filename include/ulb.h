@@ -26,7 +26,7 @@
  * Stack that a call needs, in bytes, its return address and arguments included, on x86-64: at most, and where no
  * catch-up goes by the constant table of offsets (docs/DUTIES.md, 15; made by tools/stack)
  *  at most  without the table
- *   12,864                552  ulb_write_io
+ *   12,848                536  ulb_write_io
  *   12,560                248  ulb_read_io
  *   12,528                216  ulb_wait_internal, ulb_wait_mreq, ulb_wait_no_mreq
  *   12,432                176  ulb_still_picture

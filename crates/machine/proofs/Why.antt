@@ -27,9 +27,7 @@ pick-number false false false line x k = refl
 
 pub number-is : (s : ZXSpecs) (t : ℕ) → delay s t ≡ numberBefore s t
 unfolding delayAt delayInLine
-number-is s t =
-    let c = t - s .contention in
-    pick-number (ltb t (s .contention)) (leb (s .contention + 192 * s .line) t) (leb 128 (c % s .line)) (c / s .line) (c % s .line) _
+number-is s t = pick-number (ltb t (s .contention)) (leb (s .contention + 192 * s .line) t) (leb 128 ((t - s .contention) % s .line)) _ _ _
 
 -- ---- the place
 module _ (s : ZXSpecs) (w : 160 ≤ s .line) (t : ℕ) where
