@@ -1,6 +1,8 @@
 // What it is: the text of programs `beamat` and `heldat`, from the bytes they read to the bytes they print.
 // What it promises: `report` leaves exactly the report that document 01 describes of `beamat`, or request Q-6 of `heldat`, for every input and every lent slice; it asks nothing of its caller.
 // Where its definitions stand: specs/Decimal.antt (spelling of a number), specs/Meaning.antt (lines and what they mean), specs/Printed.antt (what a line prints), specs/Whole.antt (the whole report).
+#![tactic(auto)]
+
 ghost use Rattle.std.specs.Prelude.{◌≡◌, [], ◌∷◌, ◌++◌, ◌+◌, ◌*◌, ◌-◌, ◌≤◌, ◌<◌, length, drop};
 ghost use Rattle.machine.specs.Numbers.{specs_of};
 ghost use Rattle.machine.specs.Timing.{delay_at, first_column};

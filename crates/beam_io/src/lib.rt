@@ -1,6 +1,8 @@
 // What it is: what programs `beamat` and `heldat` do with one input, shared with the program that runs further cases.
 // What it promises: it is safe and ends, is asked of an open file only (a failed open is negative), and `beam::report` always has room; no contract can say which bytes are read or written.
 // Where its definitions stand: in beam, specs/Whole.antt (`reportOf`).
+#![tactic(auto)]
+
 ghost use Rattle.std.specs.Prelude.{pos, ◌≤ℤ◌};
 
 use beam::{Question, Reported};

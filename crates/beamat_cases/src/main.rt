@@ -1,6 +1,8 @@
 // What it is: runs what programs `beamat` and `heldat` do on each file of data/, and prints each file's name before its two reports.
 // What it promises: it is safe and ends; what it prints is compared with the file `stdout`.
 // Where its definitions stand: in beam, specs/.
+#![tactic(auto)]
+
 use beam::Question;
 use libc::STDOUT_FILENO;
 

@@ -1,6 +1,8 @@
 // What it is: the border of the frame, after rustzx's video/border.rs: the fill, a border write at a clock, and a frame's closing.
 // What it promises: the beam and all 76,800 lent pixels at exit are what document 01's border rules make of those at entry.
 // Where its definitions stand: specs/Edge.antt.
+#![tactic(auto)]
+
 ghost use Rattle.std.specs.Prelude.{◌≡◌, ◌≤◌, length};
 ghost use Rattle.machine.specs.Numbers.{specs_of};
 ghost use Rattle.machine.specs.Timing.{border_at};

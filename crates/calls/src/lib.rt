@@ -1,6 +1,8 @@
 // What it is: the port calls of the bus, after rustzx's controller.rs: port reads and port writes, over the lent memory. Waits at an address stand in crate `contention`.
 // What it promises: each call's turn is exactly document 01's list of steps and acts, its value or code the one of its order; only room for the call's steps is asked, as one record `Ready`.
 // Where its definitions stand: crate bus, specs/Calls.antt (the calls), specs/Turns.antt (steps one after the other) and specs/Clocks.antt (the clocks of the parts); crate steps, specs/Turned.antt (`Ready`).
+#![tactic(auto)]
+
 ghost use Rattle.std.specs.Prelude.{◌≡◌, List, [], ℕ, ◌+◌, ◌<◌, length};
 ghost use Rattle.machine.specs.Numbers.{specs_of};
 ghost use Rattle.memory.specs.Paging.{write7ffd, paged_code};

@@ -1,6 +1,8 @@
 // What it is: document 01's cases that are run only, on the calls that the firmware makes. Those to be proved stand in crate case_table.
 // What it promises: it is safe and ends; what it prints is held to its file stdout.
 // Where its definitions stand: crate contracts, specs/; each line names its case.
+#![tactic(auto)]
+
 use judgement::TIMED_LENGTH;
 use libc::STDOUT_FILENO;
 use machine::{BORDER_LENGTH, PICTURE_LENGTH};

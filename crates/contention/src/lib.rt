@@ -1,6 +1,8 @@
 // What it is: contention, after rustzx's controller.rs: the delay that is due at an address, waits there, and the clocks that the parts of a port call take.
 // What it promises: a wait's turn is exactly document 01's list of steps; the clocks of a port call's parts are those of its steps, also where a frame ends among them; only room is asked.
 // Where its definitions stand: crate bus, specs/Calls.antt (the calls), specs/Turns.antt (steps one after the other) and specs/Clocks.antt (their clocks); crate steps, specs/Turned.antt (`Ready`).
+#![tactic(auto)]
+
 ghost use Rattle.std.specs.Prelude.{◌≡◌, ◌+◌, ◌^◌, ◌<◌};
 ghost use Rattle.machine.specs.Numbers.{specs_of};
 ghost use Rattle.bus.specs.Turns.{ran_by};

@@ -1,6 +1,8 @@
 // What it is: the eight refusals of document 01 and refusals 9, 10 and 11 of document 02 (Q-2, Q-4), their order, and the bytes of the answers.
 // What it promises: each judgement is the first refusal, in the stated order, whose condition holds, or the sound record where none does; each answer has exactly the stated bytes.
 // Where its definitions stand: specs/Refusals.antt (numbers and order), specs/Judges.antt (each call's conditions), specs/Answers.antt (bytes).
+#![tactic(auto)]
+
 ghost use Rattle.std.specs.Prelude.{◌≡◌, ◌<◌, length, replicate};
 ghost use Rattle.record.specs.Record.{flag_byte};
 ghost use Rattle.judgement.specs.Refusals.{refusal_number, judged, in_turn};

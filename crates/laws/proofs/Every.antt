@@ -1,13 +1,13 @@
 -- A rule of a table, proved at all of its entries by one test that antt computes, one entry after the other.
 -- Assumes nothing.
-use mathlib.Core.Path.{◌≡◌, ◌∙◌, subst, sym}
-use mathlib.Core.Bool.{Bool, true}
+use mathlib.Core.Path.{◌∙◌, subst, sym}
+use mathlib.Core.Bool.{Bool}
 use mathlib.Core.List.{List, [], ◌∷◌}
 use Prim.Native.Nat.{ℕ, zero, suc, ◌+◌, ◌<◌}
 use native.Mathlib.Nat.{add-zero, zero-add, add-suc, suc-add, le_of_suc-le-suc, not-suc-le-zero}
 use lib.Dec.{T}
 use lib.ListN.{length, get_or}
-use Rattle.laws.specs.Tests.{both, every}
+use Rattle.laws.specs.Tests.{every}
 use Rattle.laws.proofs.Below.{both_left, both_right}
 
 from : (f : ℕ → ℕ → Bool) (xs : List ℕ) (i : ℕ) → T (every f i xs) → (k : ℕ) → k < length xs → T (f (i + k) (get_or xs k 0))

@@ -8,7 +8,7 @@ use Rattle.machine.specs.declared.ZXSpecs.{ZXSpecs}
 use Rattle.machine.specs.declared.BlocksCount.{BlocksCount}
 use Rattle.machine.specs.declared.BorderPlace.{BorderPlace}
 use Rattle.machine.specs.declared.BorderPlace.TheVariants.{At, FrameEnd}
-use Rattle.machine.specs.Timing.{delay, blocks_capped, blocks_from, blocks_at, block_position, border_capped, border_from, border_at, border_position}
+use Rattle.machine.specs.Timing.{delay, blocks_capped, blocks_from, blocks_at, block_position, border_capped, border_from, border_at}
 use Rattle.machine.proofs.Pattern.{worked_out}
 use Rattle.machine.proofs.Why.{number_is}
 

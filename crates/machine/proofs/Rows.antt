@@ -1,6 +1,6 @@
 -- What the code's sums ask of a row and of the clocks in it, over any length of a line.
 -- Assumes nothing.
-use Prim.Native.Nat.{ℕ, ◌+◌, ◌*◌, ◌/◌, ◌%◌, ◌<◌, ◌≤◌, ◌^◌}
+use Prim.Native.Nat.{ℕ, ◌+◌, ◌/◌, ◌%◌, ◌<◌, ◌≤◌, ◌^◌}
 use native.Mathlib.Nat.{div-mul-le_self, mul-le-mul_left, mod-lt}
 use native.Mathlib.Omega.{arith}
 

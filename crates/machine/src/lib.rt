@@ -1,6 +1,8 @@
 // What it is: the timing of the two machines, after rustzx's machine/mod.rs and specs.rs: delay, block and border position, interrupt, contended pages and ports, memory sizes.
 // What it promises: at every 32-bit clock each function gives exactly what document 01's "Numbers of the two machines" says; none asks anything of its caller.
 // Where its definitions stand: specs/Numbers.antt (the table of numbers), specs/Limits.antt (lengths and limits that are no machine's own), specs/Timing.antt (the readings of a clock), specs/Contended.antt (pages and ports), specs/Why.antt (what the delay's answer says).
+#![tactic(auto)]
+
 ghost use Rattle.std.specs.Prelude.{◌≡◌, ◌/◌, leb};
 ghost use Rattle.machine.specs.Numbers.{specs_of, Regular};
 ghost use Rattle.machine.specs.Timing.{entry, delay_at, clocks_held, blocks_capped, blocks_at, block_position, border_capped, border_at, border_position, frame_end, interrupt};

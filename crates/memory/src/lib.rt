@@ -1,6 +1,8 @@
 // What it is: the pages of ROM and RAM and how the 7FFD byte maps them, after rustzx's memory.rs and the paging and memory half of controller.rs.
 // What it promises: the page at each block, the shown page, contended addresses, the 7FFD write, bytes read and written, pages handed out and loaded are exactly what document 01's "Bus calls" says, on both machines, at every 7FFD byte and every address; and screen files what document 02 says, Q-2. Only a function that is lent ROM or RAM asks anything of its caller: their lengths.
 // Where its definitions stand: specs/Paging.antt (the map, the shown page, contention, the 7FFD write), specs/Memory.antt (places, bytes, parts, loads), specs/Screens.antt (screen files, video pages), specs/Pages.antt (the public pages, apart from document 01).
+#![tactic(auto)]
+
 ghost use Rattle.std.specs.Prelude.{◌≡◌, ◌+◌, ◌*◌, ◌/◌, ◌≤◌, length};
 ghost use Rattle.machine.specs.Numbers.{specs_of};
 ghost use Rattle.machine.specs.Limits.{page_length};

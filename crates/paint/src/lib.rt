@@ -1,6 +1,8 @@
 // What it is: painting: blocks of a video page into a picture, each block's bitmap byte found by the constant table of crate `offsets`, or, where the blocks are few, by shifts and masks of the block's number.
 // What it promises: the picture at exit is the definition of the page and the picture at entry: the blocks asked for as the pixel rule gives them, and no other byte changed.
 // Where its definitions stand: specs/Paint.antt, by the line rule and never by the table or the masks; the laws of painting are in proofs/Painting.antt.
+#![tactic(auto)]
+
 ghost use Rattle.std.specs.Prelude.{◌≡◌, ◌+◌, ◌-◌, ◌*◌, ◌≤◌, ◌<◌, length, take, drop};
 ghost use Rattle.std.proofs.lemmas.List.Edits.{sets};
 ghost use Rattle.offsets.specs.Offset.{offset_of};

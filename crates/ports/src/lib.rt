@@ -1,6 +1,8 @@
 // What it is: the ports of the bus, after controller.rs's read_io, write_io and floating_bus_value: the device record, the key rows, who answers a read, who hears a write, and where the floating bus reads.
 // What it promises: for every record, port and clock the answer is the one that document 01 gives; only the two functions that take the lent 35 bytes ask something, namely that there are 35.
 // Where its definitions stand: specs/Devices.antt (the 35 bytes), specs/Keys.antt (key rows), specs/Order.antt (port classes, read and write order), specs/Floating.antt (floating bus); specs/Pages.antt has the public pages' words.
+#![tactic(auto)]
+
 ghost use Rattle.std.specs.Prelude.{◌≡◌, ◌+◌, ◌<◌, length, cond};
 ghost use Rattle.machine.specs.Numbers.{specs_of, Regular};
 ghost use Rattle.ports.specs.Devices.{extender_of, ay_of, joystick_of, mouse_of, rows_of, devices_of, flags_of, devices_length};

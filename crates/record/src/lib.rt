@@ -1,6 +1,8 @@
 // What it is: the state record of document 01, as a value and as 23 little-endian bytes, with the judgement whether lent bytes are sound.
 // What it promises: any slice is judged exactly as document 01 says, length first; the bytes of a sound record are held as that record and as no other.
 // Where its definitions stand: specs/Words.antt (little-endian numbers), specs/Record.antt (bytes, soundness, start), specs/Sound.antt (soundness as facts).
+#![tactic(auto)]
+
 ghost use Rattle.std.specs.Prelude.{◌≡◌, ◌+◌, ◌≤◌, length, ◌&&◌};
 ghost use Rattle.record.specs.Words.{le16, le32, word_at, long_at};
 ghost use Rattle.record.specs.Record.{record_length, machine_number, machine_of, flag_byte, record_of, record_bytes, advanced, marked, codes_in_range, in_range, painted_in_place, pairs_in_place, blocked_at_end, paging_allowed, sound_bus, held_by, fresh_record, start_record};

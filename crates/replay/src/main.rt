@@ -1,6 +1,8 @@
 // What it is: the stored comparison with the Rust original. It plays a script of calls, its standard input, on the library, and writes a line for each.
 // What it promises: to be safe and to end. What it writes is held to the file stdout, which holds the original's answers (oracle/list makes both files).
 // Where its definitions stand: nowhere; oracle/README.md has the table of records and lines.
+#![tactic(auto)]
+
 use libc::STDIN_FILENO;
 use script::Call;
 

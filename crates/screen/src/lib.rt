@@ -1,6 +1,8 @@
 // What it is: the screen of the ULA: the five address helpers, colours and attributes, and the pixel rule. Crate `paint` paints with it.
 // What it promises: each helper answers for every number, in range or not; the eight pixels of a block are what the pixel rule gives for its two bytes.
 // Where its definitions stand: specs/Address.antt (helpers), specs/Colour.antt (colours, attributes), specs/Pixel.antt (the pixel rule), specs/Packed.antt (eight pixels in one number).
+#![tactic(auto)]
+
 ghost use Rattle.std.specs.Prelude.{◌≡◌, cond, ◌&&◌};
 ghost use Rattle.std.specs.Int.Bits.{bit_xor};
 ghost use Rattle.screen.specs.Address.{line_address, line_at, column_at, attribute_row, attribute_column};

@@ -1,6 +1,8 @@
 // What it is: the scripts of the oracle: their records, what both sides work out alike (digests, page fillings, devices), and the lines of answers.
 // What it promises: to be safe and to end. The program replay is held to the lines that the original's side writes.
 // Where its definitions stand: nowhere; oracle/README.md has the table of records and lines.
+#![tactic(auto)]
+
 ghost use Rattle.std.specs.Prelude.{◌<◌};
 
 use libc::STDOUT_FILENO;

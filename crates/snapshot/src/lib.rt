@@ -1,6 +1,8 @@
 // What it is: snapshots (SNA) of both machines: which bank stands where, the size that is due, the two copies of a bank that stands twice; a file read into RAM and registers, and one written.
 // What it promises: sizes, bytes and copies are exactly what document 02 says, Q-4, for every file and every 7FFD byte. A function that reads or writes a file whole asks that its size is the one due.
 // Where its definitions stand: specs/File.antt (the format), specs/Kept.antt (what an import hands back and writes, and the file that an export writes).
+#![tactic(auto)]
+
 ghost use Rattle.std.specs.Prelude.{◌≡◌, true, ℕ, ◌+◌, ◌*◌, ◌≤◌, ◌<◌, length, get_or, take, drop};
 ghost use Rattle.machine.specs.Numbers.{specs_of};
 ghost use Rattle.machine.specs.Limits.{page_length};

@@ -1,6 +1,8 @@
 // What it is: the step of the bus, after rustzx's wait_internal and new_frame: by value, and on the record where it stands.
 // What it promises: record, pictures and border at exit, and the clocks, blocks and closing to report, are exactly those of document 01's step; only room for the step is asked, as one record `Ready`.
 // Where its definitions stand: crate bus, specs/Time.antt (the step) and specs/Turns.antt (what is reported); here specs/Turned.antt (what the code's record stands for, and `Ready`).
+#![tactic(auto)]
+
 ghost use Rattle.std.specs.Prelude.{◌≡◌, List, ℕ, ◌+◌, ◌-◌, ◌^◌, ◌≤◌, ◌<◌, length};
 ghost use Rattle.machine.specs.Numbers.{specs_of};
 ghost use Rattle.machine.specs.Limits.{border_length};

@@ -1,6 +1,8 @@
 // What it is: the end of an accepted timed call: the record and the answer are written.
 // What it promises: the record's bytes are those of the turn's record, all of them or only those that have moved, and the answer has the turn's reports.
 // Where its definitions stand: crate record, specs/Record.antt (the bytes); crate judgement, specs/Answers.antt (the answer); what a timed call does when it is refused or accepted, for each of the C crates, in proofs/Timing.antt.
+#![tactic(auto)]
+
 ghost use Rattle.std.specs.Prelude.{◌≡◌, false, length};
 ghost use Rattle.machine.specs.Timing.{interrupt};
 ghost use Rattle.record.specs.Record.{record_bytes, record_length, advanced};

@@ -1,6 +1,8 @@
 // What it is: the five address helpers and the colour of a number, at the C surface.
 // What it promises: each call accepts all bytes and numbers; what it returns, and every slice that it was lent at exit, is its definition of the slices at entry and the numbers.
 // Where its definitions stand: crate contracts, specs/Helpers.antt.
+#![tactic(auto)]
+
 ghost use Rattle.std.specs.Prelude.{◌≡◌};
 ghost use Rattle.contracts.specs.Plain.{told};
 ghost use Rattle.contracts.specs.Helpers.{colour_helped, helper_call, bitmap_line_addr, bitmap_line_rel, bitmap_col_rel, attr_row_rel, attr_col_rel, color_from_bits};

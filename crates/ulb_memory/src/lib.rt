@@ -1,6 +1,8 @@
 // What it is: memory at the C surface: byte read, page load, and the RAM page or block handed back, as a part to Rattle and by its start to C.
 // What it promises: each call accepts all bytes and numbers; what it returns, and every slice that it was lent at exit, is its definition of the slices at entry and the numbers.
 // Where its definitions stand: crate contracts, specs/Plain.antt.
+#![tactic(auto)]
+
 ghost use Rattle.std.specs.Prelude.{◌≡◌};
 ghost use Rattle.contracts.specs.Plain.{told, changed, read_internal, load_page, ram_page_told, block_told, ram_page_part, block_part};
 

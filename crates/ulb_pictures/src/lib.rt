@@ -1,6 +1,8 @@
 // What it is: pictures at the C surface: which of the two is shown, as a part to Rattle and by its start to C, and the still picture.
 // What it promises: each call accepts all bytes and numbers; what it returns, and every slice that it was lent at exit, is its definition of the slices at entry and the numbers.
 // Where its definitions stand: crate contracts, specs/Plain.antt.
+#![tactic(auto)]
+
 ghost use Rattle.std.specs.Prelude.{◌≡◌, cond};
 ghost use Rattle.bus.specs.Time.{shows_a};
 ghost use Rattle.contracts.specs.Plain.{told, changed, shown_told, still_picture, shown_part};

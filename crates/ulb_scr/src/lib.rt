@@ -1,6 +1,8 @@
 // What it is: screen files (SCR) at the C surface: one written from the shown page, and one read into a video page.
 // What it promises: each call accepts all bytes and numbers; what it returns, and every slice that it was lent at exit, is its definition of the slices at entry and the numbers.
 // Where its definitions stand: crate contracts, specs/Plain.antt; what stands in a file: crate memory, specs/Screens.antt.
+#![tactic(auto)]
+
 ghost use Rattle.std.specs.Prelude.{◌≡◌};
 ghost use Rattle.contracts.specs.Plain.{changed, save_scr, load_scr};
 

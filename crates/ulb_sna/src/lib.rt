@@ -1,6 +1,8 @@
 // What it is: snapshots (SNA) at the C surface: a machine that begins from one, and one written of a machine as it stands.
 // What it promises: each call accepts all bytes and numbers; what it returns, and every slice that it was lent at exit, is its definition of the slices at entry and the numbers.
 // Where its definitions stand: crate contracts, specs/Snapshots.antt; for which causes each is refused: crate judgement, specs/Judges.antt; what stands in a file: crate snapshot, specs/File.antt.
+#![tactic(auto)]
+
 ghost use Rattle.std.specs.Prelude.{◌≡◌};
 ghost use Rattle.judgement.specs.Judges.{judge_load_sna};
 ghost use Rattle.contracts.specs.Timed.{lent};

@@ -1,6 +1,8 @@
 // What it is: the two starts at the C surface: ulb_start, in black, and ulb_start_colour, which takes the beam's colour.
 // What it promises: each call accepts all bytes and numbers; what it returns, and every slice that it was lent at exit, is its definition of the slices at entry and the numbers.
 // Where its definitions stand: crate contracts, specs/Timed.antt; for which causes each is refused: crate judgement, specs/Judges.antt.
+#![tactic(auto)]
+
 ghost use Rattle.std.specs.Prelude.{◌≡◌};
 ghost use Rattle.judgement.specs.Judges.{judge_start};
 ghost use Rattle.contracts.specs.Timed.{lent, start_leaves, start_colour, start};

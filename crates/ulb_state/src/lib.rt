@@ -1,6 +1,8 @@
 // What it is: what the C surface tells and changes of the record alone: 7FFD write and read, interrupt, passed frames and their reset.
 // What it promises: each call accepts all bytes and numbers; what it returns, and every slice that it was lent at exit, is its definition of the slices at entry and the numbers.
 // Where its definitions stand: crate contracts, specs/Plain.antt.
+#![tactic(auto)]
+
 ghost use Rattle.std.specs.Prelude.{◌≡◌};
 ghost use Rattle.contracts.specs.Plain.{told, changed, repaged, write7ffd_call, read7ffd, int_active, frames_count, reset_frames};
 

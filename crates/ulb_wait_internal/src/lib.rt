@@ -1,6 +1,8 @@
 // What it is: the plain wait at the C surface: ulb_wait_internal. It stands alone so that the compiler lays it out whole (docs/DECISIONS.md, 3).
 // What it promises: the call accepts all bytes and numbers; what it returns, and every slice that it was lent at exit, is its definition of the slices at entry and the numbers.
 // Where its definitions stand: crate contracts, specs/Timed.antt.
+#![tactic(auto)]
+
 ghost use Rattle.std.specs.Prelude.{◌≡◌};
 ghost use Rattle.contracts.specs.Timed.{lent, outcome, wait_internal};
 
