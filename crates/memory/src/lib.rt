@@ -16,21 +16,21 @@ use machine::ZXMachine;
 pub const SCREEN_LENGTH: usize = 6912;
 
 // A page of 16 KiB, by its number in ROM or in RAM.
-#[derive(Drop)]
+#[derive(Clone, Copy)]
 pub enum Page {
     Rom(u8),
     Ram(u8),
 }
 
 // A byte's place among all the bytes of ROM, or of RAM.
-#[derive(Drop)]
+#[derive(Clone, Copy)]
 pub enum Place {
     Rom(usize),
     Ram(usize),
 }
 
 // What became of a 7FFD write: there is no such port, it is locked, or the byte is held from now on.
-#[derive(Drop)]
+#[derive(Clone, Copy)]
 pub enum Paged {
     Absent,
     Locked,
