@@ -232,7 +232,7 @@ pub fn put(dst: &mut [u8], at: usize, src: &[u8])
     ensures { dst.new ≡ stored at src.now dst.old }
 {
     let end = at + src.len();
-    bytes::copy(src, &mut dst[at..end]);
+    dst[at..end].copy_from_slice(src);
 }
 
 // Bytes loaded into a RAM page from its first byte on: a whole page, or a screen file.
@@ -260,5 +260,5 @@ pub fn save_screen(ram: &[u8], page: u8, file: &mut [u8])
     ensures { file.new ≡ screen_file (ram_page page ram.now) }
 {
     let from = machine::PAGE_LENGTH * page as usize;
-    bytes::copy(&ram[from..from + SCREEN_LENGTH], file);
+    file.copy_from_slice(&ram[from..from + SCREEN_LENGTH]);
 }
