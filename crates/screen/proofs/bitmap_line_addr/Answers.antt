@@ -8,8 +8,7 @@ use borrow.Author.Tests.{le-leb, lt-leb}
 use Rattle.laws.proofs.Below.{same}
 use Rattle.offsets.specs.Offset.{line_start}
 use Rattle.screen.specs.declared.Helped.TheVariants.{Number}
-use Rattle.screen.proofs.bitmap_line_addr.Statement.{statement}
-use Rattle.screen.proofs.bitmap_line_addr.Tie as tie
+use Rattle.screen.proofs.bitmap_line_addr.Goals as goal
 
 -- what the code computes
 abbrev coded : ℕ → ℕ
@@ -18,11 +17,8 @@ coded line = bit_or (bit_or (bit_or 0x4000 (bit_and (line * 32 % 2 ^ 32) 0x1800)
 right : (line : ℕ) → line < 192 → coded line ≡ 0x4000 + line_start line
 right = same coded (λ line. 0x4000 + line_start line) 192 tt
 
-returns : tie.Need-returns
-returns c = rw (le-leb c.before.args.line 191 (omega arith)) (ap Number (right c.before.args.line (omega arith)))
+pub returns-then-line-le191 : goal.returns-then-line-le191
+returns-then-line-le191 c = rw (le-leb c.args.line 191 (omega arith)) (ap Number (right c.args.line (omega arith)))
 
-returns-2 : tie.Need-returns-2
-returns-2 c = rw (lt-leb c.before.args.line 191 (omega arith))
-
-pub bitmap-line-addr-spec : {M : Type 1} → statement M
-bitmap-line-addr-spec = tie.close (tie.spec returns returns-2)
+pub returns-else-line-le191 : goal.returns-else-line-le191
+returns-else-line-le191 c = rw (lt-leb c.args.line 191 (omega arith))

@@ -9,8 +9,7 @@ use native.Mathlib.Nat.{lt_of_lt_of_le}
 use Rattle.offsets.specs.Offset.{offset_of, IsTable}
 use Rattle.laws.specs.Tests.{every}
 use Rattle.laws.proofs.Every.{at}
-use Rattle.offsets.proofs.table.Statement.{statement}
-use Rattle.offsets.proofs.table.Tie as tie
+use Rattle.offsets.proofs.table.Goals as goal
 
 right : ℕ → ℕ → Bool
 right k x = eqb x (offset_of k)
@@ -19,9 +18,6 @@ rule : (xs : List ℕ) → T (every right 0 xs) → T (leb 6144 (length xs)) →
 unfolding IsTable right
 rule xs t l k h = eqb→eq (get_or xs k 0) (offset_of k) (at right xs t k (lt_of_lt_of_le h (leb→le 6144 (length xs) l)))
 
-returns : tie.Need-returns
+pub returns : goal.returns
 unfolding right
 returns c = rule _ tt tt
-
-pub table-spec : {M : Type 1} → statement M
-table-spec = tie.close (tie.spec returns)

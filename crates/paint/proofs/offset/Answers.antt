@@ -7,8 +7,7 @@ use native.Mathlib.Nat.{add-zero}
 use lib.Pow.{pow_pos}
 use lib.Bits.{bit_and, bit_or, and_mask, and_high, and_block, or_block, or_shifted, or_zero_r}
 use Rattle.offsets.specs.Offset.{offset_of}
-use Rattle.paint.proofs.offset.Statement.{statement}
-use Rattle.paint.proofs.offset.Tie as tie
+use Rattle.paint.proofs.offset.Goals as goal
 
 -- what the code computes
 abbrev coded : ℕ → ℕ
@@ -40,8 +39,5 @@ right k h =
     rw (ends k (omega arith), and_high (k * 8 % 2 ^ 64) 3 8, and_high (k / 8) 3 5, third, line, row)
     (side_by_side (k / 32 / 64) (k / 32 % 8) (k / 32 / 8 % 8) (k % 32) (omega arith) (omega arith) (omega arith))
 
-returns : tie.Need-returns
+pub returns : goal.returns
 returns c = right c.args.k c.requires
-
-pub offset-spec : {M : Type 1} → statement M
-offset-spec = tie.close (tie.spec returns)

@@ -2,12 +2,10 @@
 -- Assumes nothing.
 use Prim.Native.Nat.{ℕ, ◌+◌, ◌*◌, ◌/◌, ◌%◌, ◌^◌, ◌<◌}
 use mathlib.Core.Path.{◌≡◌}
-use borrow.Author.Rules.{rules}
 use lib.Bits.{bit_and}
 use Rattle.laws.proofs.Below.{same}
 use Rattle.screen.specs.Packed.{bits_of, packed}
-use Rattle.screen.proofs.spread.Statement.{statement}
-use Rattle.screen.proofs.spread.Tie as tie
+use Rattle.screen.proofs.spread.Goals as goal
 
 -- what the code computes
 abbrev coded : ℕ → ℕ
@@ -17,14 +15,5 @@ right : (b : ℕ) → b < 256 → coded b ≡ packed 1 0 (bits_of b)
 unfolding packed
 right = same coded (λ b. packed 1 0 (bits_of b)) 256 tt
 
-mul-result : tie.Need-overflow-mul-result
-mul-result c = search rules
-
-add-result : tie.Need-overflow-add-result
-add-result c = search rules
-
-returns : tie.Need-returns
+pub returns : goal.returns
 returns c = right c.args.byte c.ranges.byte.fits
-
-pub spread-spec : {M : Type 1} → statement M
-spread-spec = tie.close (tie.spec mul-result add-result returns)
