@@ -22,14 +22,14 @@ use record::Bus;
 use steps::Turning;
 
 // A port read under way: its value was taken before the final step.
-#[derive(Drop)]
+#[derive(Clone, Copy)]
 pub struct ReadTurn {
     pub turn: Turning,
     pub value: u8,
 }
 
 // A write under way, with its code.
-#[derive(Drop)]
+#[derive(Clone, Copy)]
 pub struct WriteTurn {
     pub turn: Turning,
     pub code: u8,

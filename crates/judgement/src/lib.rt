@@ -18,7 +18,7 @@ pub const TIMED_LENGTH: usize = 10;
 pub const NUMBER_LENGTH: usize = 5;
 
 // In the order of their numbers, so that a refusal's number is its place; the order of judging is that of `Causes`.
-#[derive(Drop)]
+#[derive(Clone, Copy)]
 pub enum Refusal {
     BadMachine,
     BadLength,
@@ -34,7 +34,7 @@ pub enum Refusal {
 }
 
 // What is said of a call: refused, or accepted with the sound record that it was lent.
-#[derive(Drop)]
+#[derive(Clone, Copy)]
 pub enum Verdict {
     Refused(Refusal),
     Accepted(Bus),
@@ -60,7 +60,7 @@ pub fn number(e: Refusal) -> u8
 }
 
 // The causes behind the record, each by whether it holds, in their order: "other lengths, 4, 5, 6, 7, 8", 9 "after 7", and 10 behind them.
-#[derive(Drop)]
+#[derive(Clone, Copy)]
 struct Causes {
     length: bool,
     flag: bool,

@@ -8,14 +8,14 @@ ghost use Rattle.machine.specs.Numbers.{specs_of, Regular};
 ghost use Rattle.machine.specs.Timing.{entry, delay_at, clocks_held, blocks_capped, blocks_at, block_position, border_capped, border_at, border_position, frame_end, interrupt};
 ghost use Rattle.machine.specs.Contended.{port_contended, bank_contended};
 
-#[derive(Drop)]
+#[derive(Clone, Copy)]
 pub enum ZXMachine {
     Sinclair48K,
     Sinclair128K,
 }
 
 // A machine's numbers: clocks of a line and of a frame, lines in a frame, the three origins in clocks, and bytes of RAM and ROM.
-#[derive(Drop)]
+#[derive(Clone, Copy)]
 pub struct ZXSpecs {
     pub line: u32,
     pub lines: u32,
@@ -60,7 +60,7 @@ pub const LONGEST_WAIT: u32 = 65535;
 
 // The delay at a clock, and why. In the picture: its line, document 01's x, and the clocks for which the Z80 is held, which may
 // be none. Outside the picture, which x of 128 or more is too, nothing is fetched and nothing held.
-#[derive(Drop)]
+#[derive(Clone, Copy)]
 pub enum Delay {
     Held { line: u32, x: u32, clocks: u32 },
     Outside,
@@ -79,14 +79,14 @@ impl Delay {
 }
 
 // How many 8 x 1 blocks have been fetched: whole lines, and columns of the next one.
-#[derive(Drop)]
+#[derive(Clone, Copy)]
 pub struct BlocksCount {
     pub lines: u32,
     pub columns: u32,
 }
 
 // Where the border's beam is: at a line and a pixel, or past the last one.
-#[derive(Drop)]
+#[derive(Clone, Copy)]
 pub enum BorderPlace {
     At { line: u32, pixel: u32 },
     FrameEnd,

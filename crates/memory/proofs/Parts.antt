@@ -7,7 +7,7 @@ use native.Mathlib.Omega.{arith}
 use lib.Dec.{lit≤}
 use lib.ListN.{length, take, drop, drop_of_length-le}
 use lib.Seq.{take-length, sets-eq}
-use borrow.Rule.Slice.PartMut.{mid_of, put_mid, mid_len, Post-is}
+use borrow.Rule.Slice.PartMut.{put_mid, Post-is}
 use Rattle.machine.specs.declared.ZXMachine.{ZXMachine}
 use Rattle.machine.specs.declared.ZXMachine.TheVariants.{Sinclair48K, Sinclair128K}
 use Rattle.machine.specs.Numbers.{specs_of}
@@ -26,9 +26,8 @@ module _ (from : ℕ) (dst src ys : List ℕ) (fits : from + length src ≤ leng
   abbrev to : ℕ
   to = from + length src
 
-  pub put_is : ys ≡ take (length src) src ++ drop (length src) (mid_of from (to - from) dst) → put_mid from (to - from) dst ys ≡ stored from src dst
+  pub put_is : ys ≡ src → put_mid from (to - from) dst ys ≡ stored from src dst
   put_is e =
-      let n : length (mid_of from (to - from) dst) ≤ length src = omega (arith, mid_len from to dst fits) in
-      ap₂ (λ (y z : List ℕ). take from dst ++ (y ++ z)) (e ∙ copied src (mid_of from (to - from) dst) n) (Post-is from to dst (omega arith))
+      ap₂ (λ (y z : List ℕ). take from dst ++ (y ++ z)) e (Post-is from to dst (omega arith))
       ∙ sym (append_assoc (take from dst) src (drop to dst))
       ∙ sym (sets-eq src dst from fits)

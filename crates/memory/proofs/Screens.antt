@@ -5,11 +5,11 @@ use Prim.Native.Nat.{ℕ, ◌+◌, ◌-◌, ◌*◌, ◌≤◌, ◌<◌}
 use native.Mathlib.Nat.{add-sub_cancel_left}
 use mathlib.Core.Path.{◌≡◌, refl, sym, ap, ◌∙◌}
 use mathlib.Core.Bool.{Bool, true, false, ◌||◌, false≢true}
-use mathlib.Core.List.{List, ◌++◌, append-nil}
+use mathlib.Core.List.{List, ◌++◌}
 use native.Mathlib.Omega.{arith}
 use lib.Dec.{eqb, lit≤}
-use lib.ListN.{length, get_or, take, drop, take-append-drop, length-drop, drop_of_length-le}
-use lib.Seq.{length-take-le, take-take, take-add, take_at, take-length, get_or-take}
+use lib.ListN.{length, get_or, take, drop, take-append-drop, length-drop}
+use lib.Seq.{length-take-le, take-take, take-add, take_at, get_or-take}
 use borrow.Author.Tests.{eqb-true}
 use Rattle.laws.proofs.Cases.{by_bool}
 use Rattle.machine.specs.declared.ZXMachine.{ZXMachine}
@@ -51,11 +51,10 @@ module _ (p : ℕ) (ram : List ℕ) (whole : 16384 * p + 16384 ≤ length ram) w
   abbrev front : List ℕ
   front = take (16384 * p + screen_length - 16384 * p) (drop (16384 * p) ram)
 
-  pub save_is : (old new : List ℕ) → length old ≡ screen_length → new ≡ take (length front) front ++ drop (length front) old → new ≡ screen_file (ram_page p ram)
+  pub save_is : (old new : List ℕ) → length old ≡ screen_length → new ≡ front → new ≡ screen_file (ram_page p ram)
   save_is old new long f =
       let e : front ≡ screen_file (ram_page p ram) = rw add-sub_cancel_left (sym file_in_ram) in
-      let n : length front ≡ screen_length = ap length e ∙ file_long in
-      f ∙ rw (take-length front, drop_of_length-le old {i = length front} (omega arith)) (append-nil front ∙ e)
+      f ∙ e
 
 -- BYTE FOR BYTE: where the file of a page is this one, byte i of the page is byte i of the file.
 pub file_bytes : (p : ℕ) (ram file : List ℕ) → screen_file (ram_page p ram) ≡ file → (i : ℕ) → i < 6912 → get_or (ram_page p ram) i 0 ≡ get_or file i 0

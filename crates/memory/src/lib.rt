@@ -16,21 +16,21 @@ use machine::ZXMachine;
 pub const SCREEN_LENGTH: usize = 6912;
 
 // A page of 16 KiB, by its number in ROM or in RAM.
-#[derive(Drop)]
+#[derive(Clone, Copy)]
 pub enum Page {
     Rom(u8),
     Ram(u8),
 }
 
 // A byte's place among all the bytes of ROM, or of RAM.
-#[derive(Drop)]
+#[derive(Clone, Copy)]
 pub enum Place {
     Rom(usize),
     Ram(usize),
 }
 
 // What became of a 7FFD write: there is no such port, it is locked, or the byte is held from now on.
-#[derive(Drop)]
+#[derive(Clone, Copy)]
 pub enum Paged {
     Absent,
     Locked,
@@ -232,7 +232,7 @@ pub fn put(dst: &mut [u8], at: usize, src: &[u8])
     ensures { dst.new ≡ stored at src.now dst.old }
 {
     let end = at + src.len();
-    bytes::copy(src, &mut dst[at..end]);
+    dst[at..end].copy_from_slice(src);
 }
 
 // Bytes loaded into a RAM page from its first byte on: a whole page, or a screen file.
@@ -260,5 +260,5 @@ pub fn save_screen(ram: &[u8], page: u8, file: &mut [u8])
     ensures { file.new ≡ screen_file (ram_page page ram.now) }
 {
     let from = machine::PAGE_LENGTH * page as usize;
-    bytes::copy(&ram[from..from + SCREEN_LENGTH], file);
+    file.copy_from_slice(&ram[from..from + SCREEN_LENGTH]);
 }

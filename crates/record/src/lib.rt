@@ -10,7 +10,7 @@ ghost use Rattle.record.specs.Record.{record_length, machine_number, machine_of,
 use machine::ZXMachine;
 
 // The state of the bus between two calls.
-#[derive(Drop)]
+#[derive(Clone, Copy)]
 pub struct Bus {
     pub machine: ZXMachine,
     // Clocks since the frame began.
@@ -35,7 +35,7 @@ pub struct Bus {
 }
 
 // What a lent slice holds.
-#[derive(Drop)]
+#[derive(Clone, Copy)]
 pub enum Held {
     WrongLength,
     Unsound,
@@ -182,7 +182,7 @@ pub fn encode(dst: &mut [u8], b: Bus)
     ensures { dst.new ≡ record_bytes b }
 {
     let all = bytes(b);
-    bytes::copy(&all, dst);
+    dst.copy_from_slice(&all);
 }
 
 // Clock and painted blocks alone, into the bytes of a record that keeps the rest.

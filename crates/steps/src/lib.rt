@@ -18,7 +18,7 @@ use border::Beam;
 use record::Bus;
 
 // The state of the bus during a call, and what the call has to report so far.
-#[derive(Drop)]
+#[derive(Clone, Copy)]
 pub struct Turning {
     pub bus: Bus,
     pub clocks: u32,
