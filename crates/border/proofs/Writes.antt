@@ -1,14 +1,13 @@
 -- Each way out of a border write and of a closing is a case of its definition.
 -- Assumes nothing.
-use mathlib.Core.Path.{◌≡◌, refl, sym, subst}
-use mathlib.Core.Bool.{Bool, true, false}
+use mathlib.Core.Path.{◌≡◌}
+use mathlib.Core.Bool.{true, false}
 use mathlib.Core.List.{List}
-use Prim.Native.Nat.{ℕ, ◌+◌, ◌*◌, ◌/◌, ◌≤◌, ◌<◌, ◌^◌}
-use native.Mathlib.Omega.{arith}
+use Prim.Native.Nat.{ℕ, ◌+◌, ◌*◌, ◌/◌}
 use Rattle.machine.specs.declared.BorderPlace.{BorderPlace}
 use Rattle.machine.specs.declared.BorderPlace.TheVariants.{At, FrameEnd}
 use Rattle.border.specs.declared.Beam.{Beam}
-use Rattle.border.specs.Edge.{Edge, filled, edge_of, inked_at, inked, finished}
+use Rattle.border.specs.Edge.{filled, edge_of, inked_at, inked, finished}
 
 module _ (beam : Beam) (pixels : List ℕ) where
   pub closed_blocked : beam.blocked ≡ true → edge_of (record { colour = beam.colour; blocked = false; pairs = 0 }) pixels ≡ finished (edge_of beam pixels)

@@ -1,6 +1,6 @@
 -- Document 01, "Start, time and paint": the border.
 -- Assumes nothing.
-use Rattle.std.specs.Prelude.{ℕ, ◌+◌, ◌-◌, ◌*◌, ◌/◌, Bool, true, false, cond, List, replicate}
+use Rattle.std.specs.Prelude.{ℕ, ◌-◌, ◌*◌, ◌/◌, Bool, true, false, cond, List, replicate}
 use Rattle.std.proofs.lemmas.List.Edits.{sets}
 use Rattle.machine.specs.declared.BorderPlace.{BorderPlace}
 use Rattle.machine.specs.declared.BorderPlace.TheVariants.{At, FrameEnd}

@@ -1,7 +1,7 @@
 -- STEPS MERGE: a step of a clocks and then one of b leave and report what one step of a + b does, where the first closes no frame.
 -- Assumes nothing.
 use mathlib.Core.Path.{◌≡◌, refl, sym, ap, ◌∙◌}
-use mathlib.Core.Bool.{Bool, true, false, ◌||◌, cond, or_false}
+use mathlib.Core.Bool.{Bool, true, false, ◌||◌, cond, or-false}
 use mathlib.Core.List.{List, [], ◌∷◌}
 use Prim.Native.Nat.{ℕ, ◌+◌, ◌-◌, ◌<◌, ◌≤◌}
 use native.Mathlib.Nat.{add_assoc, add-zero, zero-add}
@@ -67,7 +67,7 @@ module _ (m : ZXMachine) (a b : ℕ) (c : Core) (goes : closes m a c ≡ false) 
 
   closed_merge : (x : Bool) → (x || closed_by m (tick a) c) || closed_by m (tick b) (in_core m (tick a) c) ≡ x || closed_by m (tick (a + b)) c
   unfolding closed_by in_core
-  closed_merge x = rw (goes, or_false x, add_assoc)
+  closed_merge x = rw (goes, or-false x, add_assoc)
 
 -- a call under way by its parts
 same_turn : (m : ZXMachine) (w v : World) (k l n j : ℕ) (x y : Bool) → w.core ≡ v.core → w.screen ≡ v.screen → w.edge ≡ v.edge → k ≡ l → n ≡ j → x ≡ y
@@ -176,7 +176,7 @@ module _ (a b : ℕ) (t : Turn) (over : (specs_of t.machine).frame ≤ t.world.c
 
   closed_over : (x : Bool) → (x || closed_by m (tick a) c) || closed_by m (tick b) (in_core m (tick a) c) ≡ x || closed_by m (tick (a + b)) c
   unfolding closed_by
-  closed_over x = rw (core_closed m a c first_closes, first_closes, second_goes, both_close, or_false)
+  closed_over x = rw (core_closed m a c first_closes, first_closes, second_goes, both_close, or-false)
 
   pub steps_merge_over : turned (tick b) (turned (tick a) t) ≡ turned (tick (a + b)) t
   unfolding turned clocks_of

@@ -1,7 +1,7 @@
 -- WHEN a read takes its value and when a write acts: "the value taken before the final step"; "writes act between first and last part".
 -- Firmware that samples an extender, the AY or the tape goes by these (docs/DUTIES.md, duties 8 and 9).
 -- Assumes nothing.
-use mathlib.Core.Path.{◌≡◌, refl, sym, ap, ◌∙◌}
+use mathlib.Core.Path.{◌≡◌, refl, ◌∙◌}
 use mathlib.Core.List.{List, [], ◌∷◌, ◌++◌}
 use mathlib.Core.Logic.{⊎_elim}
 use Prim.Native.Nat.{ℕ, ◌+◌, ◌-◌, ◌<◌, ◌≤◌}

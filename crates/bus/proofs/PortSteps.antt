@@ -2,7 +2,7 @@
 -- frame ends among them; a write that pages is two steps, one before its act and one after it.
 -- Assumes nothing.
 use mathlib.Core.Path.{◌≡◌, refl, sym, ap, ◌∙◌}
-use mathlib.Core.Bool.{Bool, true, false, cond, or_false}
+use mathlib.Core.Bool.{Bool, true, false, cond, or-false}
 use mathlib.Core.List.{List, [], ◌∷◌}
 use Prim.Native.Nat.{ℕ, ◌+◌, ◌-◌, ◌*◌, ◌/◌, ◌%◌, ◌<◌, ◌≤◌}
 use native.Mathlib.Nat.{add_assoc, add-zero, div-add-mod, mod-lt, mul-le-mul_left}
@@ -310,7 +310,7 @@ module _ (n k : ℕ) (t : Turn) (few : n ≤ 32) (inside : t.world.core.clock < 
   unfolding turned clocks_of blocks_of closed_by in_screen
   ink_first =
       rw (ink_core (closes t.machine n t.world.core) refl, ink_edge (closes t.machine n t.world.core) refl)
-      (simp (add-zero, or_false))
+      (simp (add-zero, or-false))
 
 -- A BORDER WRITE is one step, with its act before it at the clock that the first part ends at.
 module _ (t : Turn) (inside : t.world.core.clock < (specs_of t.machine).frame)

@@ -1,7 +1,7 @@
 -- The bus by value: document 01's state record and lent memory in three parts. The core is what calls and time rules alone decide; the
 -- screen and the edge read the core, and the core reads neither, so that what is said of pictures is never said of itself.
 -- Assumes nothing.
-use Rattle.std.specs.Prelude.{ℕ, Bool, List, ◌≡◌, length, replicate}
+use Rattle.std.specs.Prelude.{ℕ, List, ◌≡◌, length, replicate}
 use Rattle.machine.specs.declared.ZXMachine.{ZXMachine}
 use Rattle.machine.specs.Numbers.{specs_of}
 use Rattle.machine.specs.Limits.{picture_length, border_length}

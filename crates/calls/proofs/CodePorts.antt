@@ -2,7 +2,7 @@
 -- Assumes nothing.
 use Prim.Native.Nat.{ℕ, ◌+◌, ◌%◌, ◌^◌, ◌<◌, ◌≤◌}
 use mathlib.Core.Path.{◌≡◌, refl, sym, ap, ◌∙◌, subst}
-use mathlib.Core.Bool.{Bool, or_false}
+use mathlib.Core.Bool.{Bool, or-false}
 use mathlib.Core.List.{List, [], ◌∷◌}
 use native.Mathlib.Omega.{arith}
 use native.Mathlib.Nat.{add-zero}
@@ -139,7 +139,7 @@ unfolding turned ran in_core in_screen in_edge clocks_of blocks_of closed_by
 repaged_by t paging.Absent ram a b border = refl
 repaged_by t paging.Locked ram a b border = refl
 repaged_by t (paging.Taken v) ram a b border =
-    same_turn _ _ _ _ _ _ _ _ _ _ _ refl (sym (add-zero t.clocks)) (sym (add-zero t.blocks)) (sym (or_false t.closed))
+    same_turn _ _ _ _ _ _ _ _ _ _ _ refl (sym (add-zero t.clocks)) (sym (add-zero t.blocks)) (sym (or-false t.closed))
 
 pub repaged_is : (t : Turning) (v x : ℕ) (p : Paged) → p ≡ write7ffd t.bus.machine t.bus.paging v → x ≡ paging_after p t.bus.paging
     → (ram a b border : List ℕ)

@@ -1,6 +1,6 @@
 -- Painting (01, Start, time and paint). `page` is the list of a video page's 16,384 bytes, `picture` that of the 49,152 pixels.
 -- Assumes nothing.
-use Rattle.std.specs.Prelude.{ℕ, zero, suc, ◌+◌, ◌*◌, ◌/◌, ◌%◌, Bool, List, [], ◌++◌, get_or}
+use Rattle.std.specs.Prelude.{ℕ, zero, suc, ◌+◌, ◌*◌, Bool, List, [], ◌++◌, get_or}
 use Rattle.std.proofs.lemmas.List.Edits.{sets}
 use Rattle.offsets.specs.Offset.{offset_of}
 use Rattle.screen.specs.Address.{attribute_offset}

@@ -1,10 +1,10 @@
 -- The pixel rule on bytes is what the attribute gives, in the Rust's own steps: from_byte, active_color, brightness.
 -- Assumes nothing.
-use mathlib.Core.Path.{◌≡◌, refl, ◌∙◌}
+use mathlib.Core.Path.{◌≡◌, refl}
 use mathlib.Core.Bool.{Bool, true, false, cond, ◌&&◌, xor}
-use Prim.Native.Nat.{ℕ, ◌+◌, ◌-◌, ◌/◌, ◌%◌, ◌<◌, ◌≤◌}
+use Prim.Native.Nat.{ℕ, ◌+◌, ◌-◌, ◌/◌, ◌%◌, ◌<◌}
 use native.Mathlib.Omega.{arith}
-use Rattle.screen.specs.Colour.{bit, colour_of, colour_number, attribute_of, active_color}
+use Rattle.screen.specs.Colour.{bit, colour_of, attribute_of, active_color}
 use Rattle.screen.specs.Pixel.{ink_of, paper_of, pixel_of, pixel_byte}
 use Rattle.screen.specs.declared.ZXColor.{ZXColor}
 use Rattle.screen.specs.declared.ZXBrightness.TheVariants.{Normal, Bright}

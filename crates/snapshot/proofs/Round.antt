@@ -7,7 +7,7 @@ use mathlib.Core.Bool.{Bool, true, false, cond, not, ◌&&◌, false≢true}
 use mathlib.Core.List.{List, [], ◌∷◌, ◌++◌, append_assoc}
 use native.Mathlib.Nat.{zero-lt-suc, suc_inj, mod-eq_of_lt}
 use native.Mathlib.Omega.{arith}
-use borrow.Author.Tests.{eqb-true, eqb-false, eq-eqb, not_true}
+use borrow.Author.Tests.{eqb-true, eqb-false, eq-eqb, not-true}
 use lib.Dec.{eqb, lit<, lit≤}
 use lib.ListN.{length, get_or, take, drop, length-append, length-drop, take-append-drop, drop_of_length-le, get_or-append}
 use lib.Seq.{length-take-le, take_all, take-take, take-append-le, drop-cons, drop-drop, get_or_at, get_or-take, get_or-append-add, get_or-drop}
@@ -362,7 +362,7 @@ differ_somewhere m file due e =
     let p : ℕ = paging_in m file in
     let same : Bool = same_bytes (copy_in m file) (bank_at 2 file) in
     let twice : stands_twice m p ≡ true = and_left (stands_twice m p) (not same) e in
-    (twice, part_somewhere m file due twice (not_true same (and_right (stands_twice m p) (not same) e)))
+    (twice, part_somewhere m file due twice (not-true same (and_right (stands_twice m p) (not same) e)))
 
 -- A FILE TOO SHORT to hold the 7FFD byte is not of the size that is due
 pub too_short : (file : List ℕ) → length file ≤ paging_byte_at → length file ≡ due_size Sinclair128K (paging_in Sinclair128K file) → ⊥

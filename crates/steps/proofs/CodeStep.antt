@@ -2,7 +2,7 @@
 -- Assumes nothing.
 use Prim.Native.Nat.{ℕ, ◌+◌, ◌-◌, ◌*◌, ◌%◌, ◌^◌, ◌<◌, ◌≤◌}
 use mathlib.Core.Path.{◌≡◌, refl, sym, ap, ◌∙◌}
-use mathlib.Core.Bool.{Bool, true, false, cond, ◌&&◌, or-true, or_false}
+use mathlib.Core.Bool.{Bool, true, false, cond, ◌&&◌, or-true, or-false}
 use mathlib.Core.List.{List}
 use native.Mathlib.Omega.{arith}
 use lib.Dec.{leb, eqb}
@@ -65,7 +65,7 @@ over_tick t n =
 
 pub tick_on : (t : Turn) (n : ℕ) → t.world.core.clock + n < (specs_of t.machine).frame → turned (tick n) t ≡ on_tick t n
 unfolding turned in_core in_screen in_edge clocks_of blocks_of closed_by
-tick_on t n h = rw (lt-leb (specs_of t.machine).frame (t.world.core.clock + n) h, or_false t.closed)
+tick_on t n h = rw (lt-leb (specs_of t.machine).frame (t.world.core.clock + n) h, or-false t.closed)
 
 pub tick_over : (t : Turn) (n : ℕ) → (specs_of t.machine).frame ≤ t.world.core.clock + n → turned (tick n) t ≡ over_tick t n
 unfolding turned in_core in_screen in_edge clocks_of blocks_of closed_by
