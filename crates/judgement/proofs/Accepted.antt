@@ -16,7 +16,7 @@ use Rattle.machine.specs.Limits.{picture_length, border_length, page_length, lon
 use Rattle.record.specs.declared.Bus.{Bus}
 use Rattle.record.specs.declared.Held.{Held}
 use Rattle.record.specs.declared.Held.TheVariants as held
-use Rattle.record.specs.Record.{record_length, machine_of, start_record, record_bytes, held_by, last_frame, no_room, HasRoom}
+use Rattle.record.specs.Record.{record_length, machine_of, record_bytes, held_by, last_frame, no_room, HasRoom}
 use Rattle.record.proofs.Soundness.{sound_facts}
 use Rattle.record.specs.Words.{Bytes}
 use Rattle.record.proofs.Round.{held_decode, held_sound, held_bytes}

@@ -540,21 +540,18 @@ pub fn fill_timed(
 {
     let c = flag(closed);
     let i = flag(interrupt);
-    bytes::copy(
-        &[
-            0,
-            value,
-            c,
-            i,
-            (clocks % 256) as u8,
-            (clocks / 256 % 256) as u8,
-            (clocks / 256 / 256 % 256) as u8,
-            (clocks / 256 / 256 / 256 % 256) as u8,
-            (blocks % 256) as u8,
-            (blocks / 256 % 256) as u8,
-        ],
-        answer,
-    );
+    answer.copy_from_slice(&[
+        0,
+        value,
+        c,
+        i,
+        (clocks % 256) as u8,
+        (clocks / 256 % 256) as u8,
+        (clocks / 256 / 256 % 256) as u8,
+        (clocks / 256 / 256 / 256 % 256) as u8,
+        (blocks % 256) as u8,
+        (blocks / 256 % 256) as u8,
+    ]);
 }
 
 // The answer of another accepted call with a number to give.
@@ -562,14 +559,11 @@ pub fn fill_number(answer: &mut [u8], n: u32)
     requires { length answer.old ≡ number_length }
     ensures { answer.new ≡ number_answer n }
 {
-    bytes::copy(
-        &[
-            0,
-            (n % 256) as u8,
-            (n / 256 % 256) as u8,
-            (n / 256 / 256 % 256) as u8,
-            (n / 256 / 256 / 256 % 256) as u8,
-        ],
-        answer,
-    );
+    answer.copy_from_slice(&[
+        0,
+        (n % 256) as u8,
+        (n / 256 % 256) as u8,
+        (n / 256 / 256 % 256) as u8,
+        (n / 256 / 256 / 256 % 256) as u8,
+    ]);
 }

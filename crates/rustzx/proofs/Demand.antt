@@ -31,7 +31,7 @@ use Rattle.bus.proofs.TimedCalls.{TimedPart, plain_timed, address_timed, read_ti
 use Rattle.machine.specs.declared.ZXMachine as ours
 use Rattle.machine.specs.declared.ZXMachine.TheVariants as our
 use Rattle.rustzx.specs.Panics.{OrPanic, done, on_done, Ends}
-use Rattle.rustzx.specs.Machine.{ZXMachine, Sinclair48K, Sinclair128K, specs}
+use Rattle.rustzx.specs.Machine.{ZXMachine, specs}
 use Rattle.rustzx.specs.Memory.{Page, Rom, Ram, ZXMemory, ram_page_data, page_data, block_data}
 use Rattle.rustzx.specs.Controller as rust
 use Rattle.rustzx.specs.Controller.{ZXController, Reached, Wrote, new, with_rom}

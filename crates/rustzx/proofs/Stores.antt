@@ -25,7 +25,7 @@ use Rattle.bus.specs.Time.{store, paged, silent, in_core, in_screen, in_edge, do
 use Rattle.bus.specs.Calls.{paging_ops, paging_write}
 use Rattle.rustzx.specs.Machine.{ZXMachine, Sinclair48K, Sinclair128K}
 use Rattle.rustzx.specs.Panics.{OrPanic, done, Option, some, none, on_done, each, Ends}
-use Rattle.rustzx.specs.Memory.{Page, Rom, Ram, ZXMemory, get_page, write, load_page}
+use Rattle.rustzx.specs.Memory.{Page, Rom, Ram, ZXMemory, get_page, write}
 use Rattle.rustzx.specs.Screen.{ScreenBank, ZXScreen, local_bank, with_active, switch_to, switch_bank, with_bank, update_in, update}
 use Rattle.rustzx.specs.Controller.{ZXController, with_memory, with_paging, to_paging, Wrote, reaches, new_screen_bank, remapped, still_enabled, write7ffd, updated, write_internal, refresh_byte, refresh_page, refreshed, load_and_refresh}
 use Rattle.rustzx.specs.Related.{our_machine, our_page, Mirrors, Mirrored, active_of, SameScreen, SameMemory, Related}

@@ -2,11 +2,10 @@
 -- Assumes nothing.
 use Prim.Native.Nat.{ℕ, ◌+◌, ◌-◌, ◌*◌, ◌%◌, ◌^◌, ◌<◌, ◌≤◌}
 use mathlib.Core.Path.{◌≡◌, refl, sym, ap, ◌∙◌}
-use mathlib.Core.Bool.{Bool, true, false, cond, ◌&&◌, or-true, or-false}
+use mathlib.Core.Bool.{Bool, true, false, cond, or-true, or-false}
 use mathlib.Core.List.{List}
 use native.Mathlib.Omega.{arith}
-use lib.Dec.{leb, eqb}
-use lib.ListN.{length, take, drop}
+use lib.ListN.{take, drop}
 use borrow.Author.Tests.{le-leb, lt-leb, eq-eqb, ne_eqb}
 use Rattle.record.specs.Record.{last_frame, HasRoom}
 use Rattle.machine.specs.declared.ZXMachine.{ZXMachine}
@@ -24,7 +23,7 @@ use Rattle.border.specs.declared.Beam.{Beam}
 use Rattle.border.specs.Edge.{Edge, edge_of, finished}
 use Rattle.record.specs.declared.Bus.{Bus}
 use Rattle.steps.specs.declared.Turning.{Turning}
-use Rattle.bus.specs.World.{Core, Screen, World}
+use Rattle.bus.specs.World.{Core, Screen}
 use Rattle.bus.specs.Time.{tick, flash_on, look_at, shows_a, caught_up, went_on, wrapped, rewound, in_core, in_screen, in_edge}
 use Rattle.bus.specs.Turns.{Turn, turned, ran, ran_by, clocks_of, blocks_of, closed_by}
 use Rattle.bus.specs.Calls.{plain_wait}
