@@ -233,17 +233,16 @@ module _ (t u : Turn) (port v first : ℕ) (r : Ready t 2 28)
             follows (first_part t.machine port) (λ m. and_then m (paging_write m v) (and_then m (last_part m port) final_step)) t u y first_part_lem
             (follows (paging_write u.machine v) (λ m. and_then m (last_part m port) final_step) u x y acts (last_part_lem y e))
 
--- Who hears a port write without the bus: the extender, the AY's two classes, and nobody. They are the code's last arm, by their places among
--- the cases of `Written`. Nothing is done to the bus, and what the paging latch would answer does not count.
+-- Who hears a port write without the bus: the extender, the AY's two classes, and nobody. They are the code's last arm. Nothing is done to the bus, and what the paging latch would answer does not count.
 abbrev pub Quiet : Written → Type 0
-Quiet w = OneOf (0 ∷ 1 ∷ 2 ∷ 5 ∷ []) (tag_of the_type w)
+Quiet w = (w ≡ written.Border → ⊥) × (w ≡ written.Paging → ⊥)
 
 quiet_ops : (w : Written) → Quiet w → (m : ZXMachine) (v : ℕ) (c : Core) → acted_on m (hearers_of w) v c ≡ []
 quiet_ops written.Extender q m v c = refl
 quiet_ops written.AySelect q m v c = refl
 quiet_ops written.AyWrite q m v c = refl
-quiet_ops written.Border q m v c = absurd (miss (0 ∷ 1 ∷ 2 ∷ 5 ∷ []) 3 tt q)
-quiet_ops written.Paging q m v c = absurd (miss (0 ∷ 1 ∷ 2 ∷ 5 ∷ []) 4 tt q)
+quiet_ops written.Border q m v c = absurd (q.0 refl)
+quiet_ops written.Paging q m v c = absurd (q.1 refl)
 quiet_ops written.Nothing q m v c = refl
 
 quiet_same : (w : Written) → Quiet w → (n : ℕ) → heard_code (hearers_of w) 0 ≡ heard_code (hearers_of w) n
@@ -251,7 +250,7 @@ quiet_same written.Extender q n = refl
 quiet_same written.AySelect q n = refl
 quiet_same written.AyWrite q n = refl
 quiet_same written.Border q n = refl
-quiet_same written.Paging q n = absurd (miss (0 ∷ 1 ∷ 2 ∷ 5 ∷ []) 4 tt q)
+quiet_same written.Paging q n = absurd (q.1 refl)
 quiet_same written.Nothing q n = refl
 
 -- a port write by who hears it

@@ -356,7 +356,7 @@ pub write_io_alike : (l : Lent) (devices : List ℕ) (port value : ℕ) (answer 
     → Alike l.state (write_io l devices port value answer).slices.state
 unfolding write_io timed_call
 write_io_alike l devices port value answer n =
-    timed_alike _ _ l answer (judge_port_of l devices answer) (port_record l devices answer)
+    timed_alike (λ m. port_write m (devices_of devices) port value) (λ m. write_code m (devices_of devices) port value) l answer (judge_port_of l devices answer) (port_record l devices answer)
     (λ bus p. keep_write bus.machine (devices_of devices) port value (lent_world bus l).core (λ e. (rw p at n) refl e))
 
 -- a 7FFD write, unless it answers 5

@@ -226,13 +226,25 @@ fn rom_size(m: ZXMachine) -> u32
     }
 }
 
+// A slice's bytes over another's. A loop of its own: std's copy would have the archive ask for memmove of the C library, where memset is all that it asks for.
+fn copy(src: &[u8], dst: &mut [u8])
+    requires { length dst.old ≡ length src.now }
+    ensures { dst.new ≡ src.now }
+{
+    let mut i = 0;
+    while i < src.len() {
+        dst[i] = src[i];
+        i += 1;
+    }
+}
+
 // Bytes put into a slice from a place on.
 pub fn put(dst: &mut [u8], at: usize, src: &[u8])
     requires { at + length src.now ≤ length dst.old }
     ensures { dst.new ≡ stored at src.now dst.old }
 {
     let end = at + src.len();
-    dst[at..end].copy_from_slice(src);
+    copy(src, &mut dst[at..end]);
 }
 
 // Bytes loaded into a RAM page from its first byte on: a whole page, or a screen file.
@@ -260,5 +272,5 @@ pub fn save_screen(ram: &[u8], page: u8, file: &mut [u8])
     ensures { file.new ≡ screen_file (ram_page page ram.now) }
 {
     let from = machine::PAGE_LENGTH * page as usize;
-    file.copy_from_slice(&ram[from..from + SCREEN_LENGTH]);
+    copy(&ram[from..from + SCREEN_LENGTH], file);
 }

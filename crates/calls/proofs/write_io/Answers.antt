@@ -1,4 +1,4 @@
-use Rattle.calls.proofs.CodePorts.{quiet_write, border_write, paging_write_lem, quiet_code, border_code, latch_code}
+use Rattle.calls.proofs.CodePorts.{Quiet, quiet_write, border_write, paging_write_lem, quiet_code, border_code, latch_code}
 use Rattle.steps.specs.Turned.{turn_of}
 use Rattle.calls.proofs.write_io.Goals as goal
 
@@ -24,7 +24,8 @@ pub returns-in_default : goal.returns-in_default
 returns-in_default c =
     let g = c.args in
     let t = turn_of g.t g.ram.now g.a.now g.b.now g.border.now in
-    let written = c.write_port-written in (
-      quiet_write t g.devices g.port g.value written.result written.ensures c.requires _ c.in_default.keys3 c.write_quietly-turn.ensures,
-      quiet_code t g.devices g.port g.value written.result written.ensures c.in_default.keys3 _ c.written_code.ensures,
+    let written = c.write_port-written in
+    let q : Quiet written.result = (c.in_default.not-Border, c.in_default.not-Paging) in (
+      quiet_write t g.devices g.port g.value written.result written.ensures c.requires _ q c.write_quietly-turn.ensures,
+      quiet_code t g.devices g.port g.value written.result written.ensures q _ c.written_code.ensures,
     )

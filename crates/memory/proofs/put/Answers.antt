@@ -3,4 +3,4 @@ use Rattle.memory.proofs.Parts.{put_is}
 use Rattle.memory.proofs.put.Goals as goal
 
 pub returns : goal.returns
-returns c = put_is c.args.at c.args.dst.now c.args.src.now c.copy_from_slice.new.self c.requires c.copy_from_slice.ensures.after
+returns c = put_is c.args.at c.args.dst.now c.args.src.now c.copy.new.dst c.requires c.copy.ensures
