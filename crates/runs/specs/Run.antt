@@ -5,7 +5,7 @@
 -- Assumes nothing.
 use Rattle.std.specs.Prelude.{ℕ, ◌+◌, List, [], ◌∷◌, ◌≡◌}
 use contract.Lifetimes.{Lfts}
-use Rattle.std.specs.Borrow.{Bor}
+use Rattle.std.specs.Borrow.{Bor, MutBor}
 use denote.Triple.Clauses.{AtExit}
 use borrow.Fn.Kinds.{ParamKind, ResultKind, Out, Dens, GoodsP, res_t, ended_of}
 use Rattle.record.specs.Words.{Bytes}
@@ -70,9 +70,12 @@ use Rattle.ulb_helpers.proofs.ulb_attr_col_rel.Kinds as kinds-attr-col-rel
 use Rattle.ulb_helpers.proofs.ulb_color_from_bits.Reads as ulb-color-from-bits
 use Rattle.ulb_helpers.proofs.ulb_color_from_bits.Kinds as kinds-color-from-bits
 
--- a `&[u8]` or `&mut [u8]` of the code: where it points, and its bytes now
+-- a `&mut [u8]` of the code: where it points, its name in the proofs, and its bytes now; and a `&[u8]`, which has no such name
 abbrev pub Slice : Type 0
-Slice = Bor (List ℕ)
+Slice = MutBor (List ℕ)
+
+abbrev pub Shared : Type 0
+Shared = Bor (List ℕ)
 
 -- a function's parameters in their order, as the tuple that its contract takes
 infixr 3 ◌&◌
@@ -84,30 +87,37 @@ x & y = (x, y)
 abbrev pub Admits : (n : ℕ) (ps : List (ParamKind n)) (r : ResultKind n) → Out n ps r → (κs : Lfts n) → Dens κs ps → (res_t r κs).Denot → AtExit (ended_of n ps r) κs → Type 0
 Admits n ps r Post κs entry code exit = GoodsP κs ps entry × Post κs entry code exit
 
--- where the firmware has the slices of a call, numbered by their order among its parameters: block and offset, and the name that the proofs know each by
+-- where the firmware has the slices of a call, numbered by their order among its parameters: block and offset, and the name that the proofs know each
+-- by that is lent to be written
 pub record Where : Type 0 where
   pub ptr : ℕ × ℕ
   pub name : ℕ
 
 module _ (at : ℕ → Where) where
-  -- a slice of these bytes
+  -- a slice of these bytes, lent to be written; and one lent to be read alone
   abbrev pub slice : ℕ → List ℕ → Slice
   slice i bytes = record { ref_ptr = (at i).ptr; ghost_name = (at i).name; now = bytes }
 
-  -- the machine's pictures and border, and all five of its slices
+  abbrev pub shared : ℕ → List ℕ → Shared
+  shared i bytes = record { ref_ptr = (at i).ptr; now = bytes }
+
+  -- the machine's pictures and border, and all five of its slices: as a timed call has them, RAM to be read alone, and as a start has them
   abbrev pub paintings : {A : Type 0} → ℕ → Lent → A → Slice × (Slice × (Slice × A))
   paintings i l rest = slice i l.a & slice (i + 1) l.b & slice (i + 2) l.border & rest
 
-  abbrev pub five : {A : Type 0} → Lent → A → Slice × (Slice × (Slice × (Slice × (Slice × A))))
-  five l rest = slice 0 l.state & slice 1 l.ram & paintings 2 l rest
+  abbrev pub five : {A : Type 0} → Lent → A → Slice × (Shared × (Slice × (Slice × (Slice × A))))
+  five l rest = slice 0 l.state & shared 1 l.ram & paintings 2 l rest
+
+  abbrev pub five_cleared : {A : Type 0} → Lent → A → Slice × (Slice × (Slice × (Slice × (Slice × A))))
+  five_cleared l rest = slice 0 l.state & slice 1 l.ram & paintings 2 l rest
 
   -- with the device record second, as the port calls have it
-  abbrev pub six : {A : Type 0} → List ℕ → Lent → A → Slice × (Slice × (Slice × (Slice × (Slice × (Slice × A)))))
-  six devices l rest = slice 0 l.state & slice 1 devices & slice 2 l.ram & paintings 3 l rest
+  abbrev pub six : {A : Type 0} → List ℕ → Lent → A → Slice × (Shared × (Shared × (Slice × (Slice × (Slice × A)))))
+  six devices l rest = slice 0 l.state & shared 1 devices & shared 2 l.ram & paintings 3 l rest
 
   -- with file and registers between RAM and the pictures, as an import has them
-  abbrev pub seven : {A : Type 0} → Lent → List ℕ → List ℕ → A → Slice × (Slice × (Slice × (Slice × (Slice × (Slice × (Slice × A))))))
-  seven l file registers rest = slice 0 l.state & slice 1 l.ram & slice 2 file & slice 3 registers & paintings 4 l rest
+  abbrev pub seven : {A : Type 0} → Lent → List ℕ → List ℕ → A → Slice × (Slice × (Shared × (Slice × (Slice × (Slice × (Slice × A))))))
+  seven l file registers rest = slice 0 l.state & slice 1 l.ram & shared 2 file & slice 3 registers & paintings 4 l rest
 
 -- A HELPER, each by the function that it is
 abbrev pub HelperAdmits : Helper → Lfts 1 → ℕ → Slice → ℕ → Slice → Type 0
@@ -122,44 +132,44 @@ HelperAdmits colour_bits κs n answer code answer' = Admits 1 kinds-color-from-b
 abbrev pub Replies : Question → (at : ℕ → Where) → Lent → List ℕ → ℕ → List ℕ → Type 0
 Replies (byte_read rom addr) at l out code filled =
     (κs : Lfts 4) × Admits 4 kinds-read-internal.ps kinds-read-internal.r ulb-read-internal.Post κs
-    (slice at 0 l.state & slice at 1 rom & slice at 2 l.ram & addr & slice at 3 out & tt) code
-    (slice at 0 l.state & slice at 1 rom & slice at 2 l.ram & addr & slice at 3 filled & tt)
+    (shared at 0 l.state & shared at 1 rom & shared at 2 l.ram & addr & slice at 3 out & tt) code
+    (shared at 0 l.state & shared at 1 rom & shared at 2 l.ram & addr & slice at 3 filled & tt)
 Replies paging_read at l out code filled =
     (κs : Lfts 2) × Admits 2 kinds-read-7ffd.ps kinds-read-7ffd.r ulb-read-7ffd.Post κs
-    (slice at 0 l.state & slice at 1 out & tt) code
-    (slice at 0 l.state & slice at 1 filled & tt)
+    (shared at 0 l.state & slice at 1 out & tt) code
+    (shared at 0 l.state & slice at 1 filled & tt)
 Replies interrupt_asked at l out code filled =
     (κs : Lfts 2) × Admits 2 kinds-int-active.ps kinds-int-active.r ulb-int-active.Post κs
-    (slice at 0 l.state & slice at 1 out & tt) code
-    (slice at 0 l.state & slice at 1 filled & tt)
+    (shared at 0 l.state & slice at 1 out & tt) code
+    (shared at 0 l.state & slice at 1 filled & tt)
 Replies frames_asked at l out code filled =
     (κs : Lfts 2) × Admits 2 kinds-frames-count.ps kinds-frames-count.r ulb-frames-count.Post κs
-    (slice at 0 l.state & slice at 1 out & tt) code
-    (slice at 0 l.state & slice at 1 filled & tt)
+    (shared at 0 l.state & slice at 1 out & tt) code
+    (shared at 0 l.state & slice at 1 filled & tt)
 Replies (page_asked page) at l out code filled =
     (κs : Lfts 3) × Admits 3 kinds-ram-page.ps kinds-ram-page.r ulb-ram-page.Post κs
-    (slice at 0 l.state & slice at 1 l.ram & page & slice at 2 out & tt) code
-    (slice at 0 l.state & slice at 1 l.ram & page & slice at 2 filled & tt)
+    (shared at 0 l.state & shared at 1 l.ram & page & slice at 2 out & tt) code
+    (shared at 0 l.state & shared at 1 l.ram & page & slice at 2 filled & tt)
 Replies (block_asked rom block) at l out code filled =
     (κs : Lfts 4) × Admits 4 kinds-block.ps kinds-block.r ulb-block.Post κs
-    (slice at 0 l.state & slice at 1 rom & slice at 2 l.ram & block & slice at 3 out & tt) code
-    (slice at 0 l.state & slice at 1 rom & slice at 2 l.ram & block & slice at 3 filled & tt)
+    (shared at 0 l.state & shared at 1 rom & shared at 2 l.ram & block & slice at 3 out & tt) code
+    (shared at 0 l.state & shared at 1 rom & shared at 2 l.ram & block & slice at 3 filled & tt)
 Replies shown_asked at l out code filled =
     (κs : Lfts 4) × Admits 4 kinds-shown-picture.ps kinds-shown-picture.r ulb-shown-picture.Post κs
-    (slice at 0 l.state & slice at 1 l.a & slice at 2 l.b & slice at 3 out & tt) code
-    (slice at 0 l.state & slice at 1 l.a & slice at 2 l.b & slice at 3 filled & tt)
+    (shared at 0 l.state & shared at 1 l.a & shared at 2 l.b & slice at 3 out & tt) code
+    (shared at 0 l.state & shared at 1 l.a & shared at 2 l.b & slice at 3 filled & tt)
 Replies (still_asked flash) at l out code filled =
     (κs : Lfts 3) × Admits 3 kinds-still-picture.ps kinds-still-picture.r ulb-still-picture.Post κs
-    (slice at 0 l.state & slice at 1 l.ram & slice at 2 out & flash & tt) code
-    (slice at 0 l.state & slice at 1 l.ram & slice at 2 filled & flash & tt)
+    (shared at 0 l.state & shared at 1 l.ram & slice at 2 out & flash & tt) code
+    (shared at 0 l.state & shared at 1 l.ram & slice at 2 filled & flash & tt)
 Replies file_asked at l out code filled =
     (κs : Lfts 3) × Admits 3 kinds-save-scr.ps kinds-save-scr.r ulb-save-scr.Post κs
-    (slice at 0 l.state & slice at 1 l.ram & slice at 2 out & tt) code
-    (slice at 0 l.state & slice at 1 l.ram & slice at 2 filled & tt)
+    (shared at 0 l.state & shared at 1 l.ram & slice at 2 out & tt) code
+    (shared at 0 l.state & shared at 1 l.ram & slice at 2 filled & tt)
 Replies (snapshot_asked registers) at l out code filled =
     (κs : Lfts 4) × Admits 4 kinds-save-sna.ps kinds-save-sna.r ulb-save-sna.Post κs
-    (slice at 0 l.state & slice at 1 l.ram & slice at 2 out & slice at 3 registers & tt) code
-    (slice at 0 l.state & slice at 1 l.ram & slice at 2 filled & slice at 3 registers & tt)
+    (shared at 0 l.state & shared at 1 l.ram & slice at 2 out & shared at 3 registers & tt) code
+    (shared at 0 l.state & shared at 1 l.ram & slice at 2 filled & shared at 3 registers & tt)
 Replies (help h n) at l out code filled = (κs : Lfts 1) × HelperAdmits h κs n (slice at 0 out) code (slice at 0 filled)
 
 -- ANY CALL, on what is lent of the machine. A slice that is lent to be read comes back as it was; so do those that are not lent. Of a slice the kit's
@@ -167,13 +177,13 @@ Replies (help h n) at l out code filled = (κs : Lfts 1) × HelperAdmits h κs n
 abbrev pub Steps : Call → (at : ℕ → Where) → Lent → Result → Type 0
 Steps (start_again (plain_start machine)) at l r =
     (κs : Lfts 5) × Admits 5 kinds-start.ps kinds-start.r ulb-start.Post κs
-    (five at l (machine & tt)) r.code
-    (five at r.slices (machine & tt))
+    (five_cleared at l (machine & tt)) r.code
+    (five_cleared at r.slices (machine & tt))
     × (r.filled ≡ [])
 Steps (start_again (colour_start machine colour)) at l r =
     (κs : Lfts 5) × Admits 5 kinds-start-colour.ps kinds-start-colour.r ulb-start-colour.Post κs
-    (five at l (machine & colour & tt)) r.code
-    (five at r.slices (machine & colour & tt))
+    (five_cleared at l (machine & colour & tt)) r.code
+    (five_cleared at r.slices (machine & colour & tt))
     × (r.filled ≡ [])
 Steps (start_again (snapshot_start machine file registers)) at l r =
     (κs : Lfts 7) × Admits 7 kinds-load-sna.ps kinds-load-sna.r ulb-load-sna.Post κs
@@ -207,8 +217,8 @@ Steps (take_time (port_out devices port value) answer) at l r =
     × (r.slices.ram ≡ l.ram)
 Steps (write_byte addr value) at l r =
     (κs : Lfts 2) × Admits 2 kinds-write-internal.ps kinds-write-internal.r ulb-write-internal.Post κs
-    (slice at 0 l.state & slice at 1 l.ram & addr & value & tt) r.code
-    (slice at 0 l.state & slice at 1 r.slices.ram & addr & value & tt)
+    (shared at 0 l.state & slice at 1 l.ram & addr & value & tt) r.code
+    (shared at 0 l.state & slice at 1 r.slices.ram & addr & value & tt)
     × (r.slices ≡ with_ram l r.slices.ram)
     × (r.filled ≡ [])
 Steps (write_paging value answer) at l r =
@@ -224,14 +234,14 @@ Steps reset_passed at l r =
     × (r.filled ≡ [])
 Steps (load_ram bytes page) at l r =
     (κs : Lfts 3) × Admits 3 kinds-load-page.ps kinds-load-page.r ulb-load-page.Post κs
-    (slice at 0 l.state & slice at 1 l.ram & slice at 2 bytes & page & tt) r.code
-    (slice at 0 l.state & slice at 1 r.slices.ram & slice at 2 bytes & page & tt)
+    (shared at 0 l.state & slice at 1 l.ram & shared at 2 bytes & page & tt) r.code
+    (shared at 0 l.state & slice at 1 r.slices.ram & shared at 2 bytes & page & tt)
     × (r.slices ≡ with_ram l r.slices.ram)
     × (r.filled ≡ [])
 Steps (load_screen file page) at l r =
     (κs : Lfts 3) × Admits 3 kinds-load-scr.ps kinds-load-scr.r ulb-load-scr.Post κs
-    (slice at 0 l.state & slice at 1 l.ram & slice at 2 file & page & tt) r.code
-    (slice at 0 l.state & slice at 1 r.slices.ram & slice at 2 file & page & tt)
+    (shared at 0 l.state & slice at 1 l.ram & shared at 2 file & page & tt) r.code
+    (shared at 0 l.state & slice at 1 r.slices.ram & shared at 2 file & page & tt)
     × (r.slices ≡ with_ram l r.slices.ram)
     × (r.filled ≡ [])
 Steps (ask q out) at l r = Replies q at l out r.code r.filled × (r.slices ≡ l)

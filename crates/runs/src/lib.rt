@@ -2,4 +2,3 @@
 // What it promises: demands 2 and 3 of every run, acceptance among them; the ranges of a call's numbers are the functions' own types.
 // Where its definitions stand: specs/Run.antt (what a run is), specs/Demands.antt (both demands of one).
 #![tactic(auto)]
-
