@@ -91,7 +91,7 @@ class Crates:
 def read():
     """The repository's crates."""
     proved, code, needed = {}, {}, set()
-    for path in sorted((root / "crates").rglob("*.antt")):
+    for path in sorted(path for part in ("specs", "proofs") for path in (root / "crates").glob(f"*/{part}/**/*.antt")):  # and none of out/
         proved.setdefault(path.relative_to(root / "crates").parts[0], []).append((path, path.read_text(encoding="utf-8")))
     for path in sorted((root / "crates").glob("*/src/*.rt")):
         crate = path.parent.parent.name

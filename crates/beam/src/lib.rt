@@ -15,7 +15,7 @@ ghost use Rattle.beam.specs.Inner.{line_length, Put};
 use machine::{BorderPlace, Delay, ZXMachine};
 
 // What is asked of each clock: where the beam is (program `beamat`), or whether the Z80 is held there and why (program `heldat`).
-#[derive(Drop)]
+#[derive(Clone, Copy)]
 pub enum Question {
     Beam,
     Held,

@@ -1,25 +1,37 @@
 // What it is: what programs `beamat` and `heldat` do with one input, shared with the program that runs further cases.
-// What it promises: it is safe and ends, is asked of an open file only (a failed open is negative), and `beam::report` always has room; no contract can say which bytes are read or written.
-// Where its definitions stand: in beam, specs/Whole.antt (`reportOf`).
+// What it promises: it is safe and ends, is asked of a reader only (a failed open gives none), and `beam::report` always has room; no contract can say which bytes are read or written.
+// Where its definitions stand: in beam, specs/Whole.antt (`report_of`).
 #![tactic(auto)]
 
-ghost use Rattle.std.specs.Prelude.{pos, ◌≤ℤ◌};
+ghost use Rattle.std.specs.Prelude.{◌≤◌, length, IfOk};
 
 use beam::{Question, Reported};
-use libc::STDOUT_FILENO;
+use std::io;
+use std::io::Read;
 
-// Reads at most 65,537 bytes, one more than are allowed, and writes their report. A read that fails counts as the input's end.
-// That there is always room is what `expect` asks the proof to show.
-pub fn answer(fd: i32, question: Question)
-    requires { pos 0 ≤ℤ fd }
-{
-    let mut input = [0u8; 65537];
+// Reads at most 65,537 bytes, one more than are allowed, and writes their report. A read or a write that fails is answered.
+// That there is always room is what `unreachable` asks the proof to show.
+pub fn answer(rt: &impl Print, input: &mut impl Read, question: Question) -> io::Result<()> {
+    let mut bytes = [0u8; 65537];
     let mut out = [0u8; 524299];
-    let n = io::read_full(fd, &mut input);
-    match beam::report(question, &input[..n], &mut out) {
-        Reported::Done(k) => {
-            io::write_all(STDOUT_FILENO, &out[..k]);
-        }
-        Reported::NoRoom => check::expect(false),
+    let n = read_full(input, &mut bytes)?;
+    match beam::report(question, &bytes[..n], &mut out) {
+        Reported::Done(k) => rt.write_all(&out[..k]),
+        Reported::NoRoom => unreachable!(),
     }
+}
+
+// Reads until buf is full or the input ends, and answers how many bytes it put at the start of buf.
+fn read_full(input: &mut impl Read, buf: &mut [u8]) -> io::Result<usize>
+    ensures { IfOk result (λ n. n ≤ length buf.new) }
+{
+    let mut done = 0;
+    while done < buf.len() {
+        let n = input.read(&mut buf[done..])?;
+        if n == 0 {
+            break;
+        }
+        done += n;
+    }
+    Ok(done)
 }

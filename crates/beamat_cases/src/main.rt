@@ -4,42 +4,43 @@
 #![tactic(auto)]
 
 use beam::Question;
-use libc::STDOUT_FILENO;
+use std::rt::Files;
+use std::{fs, io};
 
-fn run(name: &[u8]) {
-    io::write_all(STDOUT_FILENO, b"# ");
-    io::write_all(STDOUT_FILENO, name);
-    io::write_all(STDOUT_FILENO, b"\n");
-    ask(name, Question::Beam);
-    ask(name, Question::Held);
+fn run(rt: &(impl Files + Print + Eprint), name: &str) -> io::Result<()> {
+    rt.write_all(b"# ")?;
+    rt.write_all(name.as_bytes())?;
+    rt.write_all(b"\n")?;
+    ask(rt, name, Question::Beam)?;
+    ask(rt, name, Question::Held)
 }
 
-fn ask(name: &[u8], question: Question) {
-    let fd = os::open_read(name);
-    if fd < 0 {
-        os::fail(name);
-        return;
+fn ask(rt: &(impl Files + Print + Eprint), name: &str, question: Question) -> io::Result<()> {
+    let opened = fs::open(rt, name);
+    if opened.is_err() {
+        let error = opened.unwrap_err();
+        return eprintln!(rt; "{name}: {error}");
     }
-    beam_io::answer(fd, question);
-    libc::close(fd);
+    let mut file = opened.unwrap();
+    beam_io::answer(rt, &mut file, question)
 }
 
-fn main() {
-    run(b"empty");
-    run(b"newline");
-    run(b"empty_line");
-    run(b"no_final_newline");
-    run(b"two_final_newlines");
-    run(b"leading_zeros");
-    run(b"spaces");
-    run(b"frames");
-    run(b"machines");
-    run(b"signs");
-    run(b"carriage_return");
-    run(b"large");
-    run(b"other_bytes");
-    run(b"readings");
-    run(b"numbers");
-    run(b"full");
-    run(b"over");
+fn main(rt: HostRuntime) -> io::Result<()> {
+    run(&rt, "empty")?;
+    run(&rt, "newline")?;
+    run(&rt, "empty_line")?;
+    run(&rt, "no_final_newline")?;
+    run(&rt, "two_final_newlines")?;
+    run(&rt, "leading_zeros")?;
+    run(&rt, "spaces")?;
+    run(&rt, "frames")?;
+    run(&rt, "machines")?;
+    run(&rt, "signs")?;
+    run(&rt, "carriage_return")?;
+    run(&rt, "large")?;
+    run(&rt, "other_bytes")?;
+    run(&rt, "readings")?;
+    run(&rt, "numbers")?;
+    run(&rt, "full")?;
+    run(&rt, "over")
 }

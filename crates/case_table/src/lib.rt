@@ -2,4 +2,3 @@
 // What it promises: each row of the table holds of the definitions that the contracts cite.
 // Where its definitions stand: specs/Rows.antt, the table and what each kind of row says.
 #![tactic(auto)]
-

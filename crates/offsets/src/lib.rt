@@ -1,6 +1,6 @@
 // What it is: where the bitmap byte of each raster block stands in a video page: a constant table of 6,144 page offsets, by raster block.
 // What it promises: entry k of the table is what the line rule gives for block k, for each of the 6,144 blocks; the rule is computed once over the whole table.
-// Where its definitions stand: specs/Offset.antt, the line rule `lineStart`, `offset_of` and `IsTable`.
+// Where its definitions stand: specs/Offset.antt, the line rule `line_start`, `offset_of` and `IsTable`.
 #![tactic(auto)]
 
 ghost use Rattle.offsets.specs.Offset.{IsTable};

@@ -354,6 +354,7 @@ fn place_by(s: ZXSpecs, clock: u32) -> FloatingPlace
     place_in(c / line, c % line)
 }
 
+#[tactic(auto, unfolding(crate::specs::Floating::floating_in))]
 fn place_in(row: u32, r: u32) -> FloatingPlace
     ensures { result ≡ floating_in row r }
 {

@@ -3,12 +3,14 @@
 // Where its definitions stand: nowhere; oracle/README.md has the table of records and lines.
 #![tactic(auto)]
 
-use libc::STDIN_FILENO;
 use script::Call;
+use std::io;
+use std::io::{ErrorKind, Read};
 
 // ---- the calls
 
 fn start(
+    rt: &impl Print,
     call: Call,
     state: &mut [u8],
     devices: &mut [u8],
@@ -16,9 +18,12 @@ fn start(
     a: &mut [u8],
     b: &mut [u8],
     border: &mut [u8],
-) {
+) -> io::Result<()> {
     script::no_devices(devices, call.x);
-    script::say_done(ulb_start::ulb_start_colour(state, ram, a, b, border, call.z, call.y as u32));
+    script::say_done(
+        rt,
+        ulb_start::ulb_start_colour(state, ram, a, b, border, call.z, call.y as u32),
+    )
 }
 
 // A timed call: its refusal.
@@ -46,6 +51,7 @@ fn timed(
 }
 
 fn play_timed(
+    rt: &impl Print,
     call: Call,
     state: &mut [u8],
     devices: &[u8],
@@ -53,7 +59,7 @@ fn play_timed(
     a: &mut [u8],
     b: &mut [u8],
     border: &mut [u8],
-) {
+) -> io::Result<()> {
     let mut answer = [0u8; judgement::TIMED_LENGTH];
     let before = script::byte_at(state, 17);
     let refusal = timed(call, state, devices, ram, a, b, border, &mut answer);
@@ -64,22 +70,25 @@ fn play_timed(
         before,
         script::byte_at(state, 17),
     );
-    script::say_timed(refusal, value, &answer);
+    script::say_timed(rt, refusal, value, &answer)
 }
 
-fn write_7ffd(call: Call, state: &mut [u8]) {
+fn write_7ffd(rt: &impl Print, call: Call, state: &mut [u8]) -> io::Result<()> {
     let mut answer = [0u8; judgement::NUMBER_LENGTH];
     let before = script::byte_at(state, 17);
     let refusal = ulb_state::ulb_write_7ffd(state, call.x, &mut answer);
     if refusal == 0 {
-        script::say_number(script::seen(answer[1], 1, before, script::byte_at(state, 17)) as u32);
+        script::say_number(
+            rt,
+            script::seen(answer[1], 1, before, script::byte_at(state, 17)) as u32,
+        )
     } else {
-        script::say_done(refusal);
+        script::say_done(rt, refusal)
     }
 }
 
 // Calls that answer a number of the record alone.
-fn ask_state(call: Call, state: &[u8]) {
+fn ask_state(rt: &impl Print, call: Call, state: &[u8]) -> io::Result<()> {
     let mut answer = [0u8; judgement::NUMBER_LENGTH];
     let refusal = if call.op == b'8' {
         ulb_state::ulb_read_7ffd(state, &mut answer)
@@ -88,11 +97,19 @@ fn ask_state(call: Call, state: &[u8]) {
     } else {
         ulb_state::ulb_frames_count(state, &mut answer)
     };
-    script::say_told(refusal, &answer);
+    script::say_told(rt, refusal, &answer)
 }
 
 // Calls that answer a number of the memory or the pictures.
-fn ask_memory(call: Call, state: &[u8], rom: &[u8], ram: &[u8], a: &[u8], b: &[u8]) {
+fn ask_memory(
+    rt: &impl Print,
+    call: Call,
+    state: &[u8],
+    rom: &[u8],
+    ram: &[u8],
+    a: &[u8],
+    b: &[u8],
+) -> io::Result<()> {
     let mut answer = [0u8; judgement::NUMBER_LENGTH];
     let refusal = if call.op == b'G' {
         ulb_memory::ulb_read_internal(state, rom, ram, call.y, &mut answer)
@@ -103,10 +120,10 @@ fn ask_memory(call: Call, state: &[u8], rom: &[u8], ram: &[u8], a: &[u8], b: &[u
     } else {
         ulb_pictures::ulb_shown_picture(state, a, b, &mut answer)
     };
-    script::say_told(refusal, &answer);
+    script::say_told(rt, refusal, &answer)
 }
 
-fn ask_helper(call: Call) {
+fn ask_helper(rt: &impl Print, call: Call) -> io::Result<()> {
     let mut answer = [0u8; judgement::NUMBER_LENGTH];
     let refusal = if call.op == b'a' {
         ulb_helpers::ulb_bitmap_line_addr(call.z, &mut answer)
@@ -121,58 +138,83 @@ fn ask_helper(call: Call) {
     } else {
         ulb_helpers::ulb_color_from_bits(call.z, &mut answer)
     };
-    script::say_told(refusal, &answer);
+    script::say_told(rt, refusal, &answer)
 }
 
-fn fill_rom(call: Call, rom: &mut [u8]) {
+fn fill_rom(rt: &impl Print, call: Call, rom: &mut [u8]) -> io::Result<()> {
     script::fill(rom, call.z);
-    script::say_done(0);
+    script::say_done(rt, 0)
 }
 
-fn load_filled(call: Call, state: &[u8], ram: &mut [u8], page: &mut [u8]) {
+fn load_filled(
+    rt: &impl Print,
+    call: Call,
+    state: &[u8],
+    ram: &mut [u8],
+    page: &mut [u8],
+) -> io::Result<()> {
     script::fill(page, call.z);
-    script::say_done(ulb_memory::ulb_load_page(state, ram, page, call.x as u32));
+    script::say_done(
+        rt,
+        ulb_memory::ulb_load_page(state, ram, page, call.x as u32),
+    )
 }
 
-fn load_page(call: Call, state: &[u8], ram: &mut [u8], spare: &mut [u8]) {
+fn load_page(
+    rt: &impl Print,
+    call: Call,
+    state: &[u8],
+    ram: &mut [u8],
+    spare: &mut [u8],
+) -> io::Result<()> {
     if machine::PAGE_LENGTH <= spare.len() {
-        load_filled(call, state, ram, &mut spare[..machine::PAGE_LENGTH]);
+        load_filled(rt, call, state, ram, &mut spare[..machine::PAGE_LENGTH])?;
     }
+    Ok(())
 }
 
-fn still_picture(call: Call, state: &[u8], ram: &[u8], picture: &mut [u8]) {
+fn still_picture(
+    rt: &impl Print,
+    call: Call,
+    state: &[u8],
+    ram: &[u8],
+    picture: &mut [u8],
+) -> io::Result<()> {
     let refusal = ulb_pictures::ulb_still_picture(state, ram, picture, call.z);
     if refusal == 0 {
-        script::say_number(script::digest(picture));
+        script::say_number(rt, script::digest(picture))
     } else {
-        script::say_done(refusal);
+        script::say_done(rt, refusal)
     }
 }
 
 // A call that changes the record, the devices or the memory, and no picture.
 fn change(
+    rt: &impl Print,
     call: Call,
     state: &mut [u8],
     devices: &mut [u8],
     rom: &mut [u8],
     ram: &mut [u8],
     spare: &mut [u8],
-) {
+) -> io::Result<()> {
     let op = call.op;
     match op {
-        b'D' => script::set_device(call, devices),
-        b'P' => script::say_done(ulb_write_internal::ulb_write_internal(
-            state, ram, call.y, call.x,
-        )),
-        b'7' => write_7ffd(call, state),
-        b'Z' => script::say_done(ulb_state::ulb_reset_frame_counter(state)),
-        b'L' => load_page(call, state, ram, spare),
-        _ => fill_rom(call, rom),
+        b'D' => script::set_device(rt, call, devices),
+        b'P' => script::say_done(
+            rt,
+            ulb_write_internal::ulb_write_internal(state, ram, call.y, call.x),
+        ),
+        b'7' => write_7ffd(rt, call, state),
+        b'Z' => script::say_done(rt, ulb_state::ulb_reset_frame_counter(state)),
+        b'L' => load_page(rt, call, state, ram, spare),
+        _ => fill_rom(rt, call, rom),
     }
 }
 
 // A call that only answers.
 fn ask(
+    rt: &impl Print,
     call: Call,
     state: &[u8],
     rom: &[u8],
@@ -181,19 +223,20 @@ fn ask(
     b: &[u8],
     border: &[u8],
     spare: &mut [u8],
-) {
+) -> io::Result<()> {
     let op = call.op;
     match op {
-        b'8' | b'T' | b'F' => ask_state(call, state),
-        b'G' | b'Q' | b'B' | b'V' => ask_memory(call, state, rom, ram, a, b),
-        b'K' => still_picture(call, state, ram, spare),
-        b'C' => script::say_clock(state),
-        b'H' => script::say_digests(ram, a, b, border),
-        _ => ask_helper(call),
+        b'8' | b'T' | b'F' => ask_state(rt, call, state),
+        b'G' | b'Q' | b'B' | b'V' => ask_memory(rt, call, state, rom, ram, a, b),
+        b'K' => still_picture(rt, call, state, ram, spare),
+        b'C' => script::say_clock(rt, state),
+        b'H' => script::say_digests(rt, ram, a, b, border),
+        _ => ask_helper(rt, call),
     }
 }
 
 fn play(
+    rt: &impl Print,
     call: Call,
     state: &mut [u8],
     devices: &mut [u8],
@@ -203,18 +246,19 @@ fn play(
     b: &mut [u8],
     border: &mut [u8],
     spare: &mut [u8],
-) {
+) -> io::Result<()> {
     let k = script::kind(call.op);
     match k {
-        0 => start(call, state, devices, ram, a, b, border),
-        1 => play_timed(call, state, devices, ram, a, b, border),
-        2 => change(call, state, devices, rom, ram, spare),
-        _ => ask(call, state, rom, ram, a, b, border, spare),
+        0 => start(rt, call, state, devices, ram, a, b, border),
+        1 => play_timed(rt, call, state, devices, ram, a, b, border),
+        2 => change(rt, call, state, devices, rom, ram, spare),
+        _ => ask(rt, call, state, rom, ram, a, b, border, spare),
     }
 }
 
 // Plays a record on the parts of the memory that its machine has.
 fn play_on(
+    rt: &impl Print,
     call: Call,
     state: &mut [u8],
     devices: &mut [u8],
@@ -224,13 +268,14 @@ fn play_on(
     b: &mut [u8],
     border: &mut [u8],
     spare: &mut [u8],
-) {
+) -> io::Result<()> {
     let machine = script::machine_of(call, state);
     let r = script::rom_bytes(machine);
     let m = script::ram_bytes(machine);
     if r <= rom.len() {
         if m <= ram.len() {
             play(
+                rt,
                 call,
                 state,
                 devices,
@@ -240,13 +285,16 @@ fn play_on(
                 b,
                 border,
                 spare,
-            );
+            )?;
         }
     }
+    Ok(())
 }
 
 // Reads a record and plays it. Whether there was one.
 fn play_next(
+    rt: &impl Print,
+    input: &mut impl Read,
     state: &mut [u8],
     devices: &mut [u8],
     rom: &mut [u8],
@@ -255,19 +303,22 @@ fn play_next(
     b: &mut [u8],
     border: &mut [u8],
     spare: &mut [u8],
-) -> bool {
+) -> io::Result<bool> {
     let mut bytes = [0u8; 8];
-    let got = io::read_full(STDIN_FILENO, &mut bytes);
-    if got < 8 {
-        return false;
+    match input.read_exact(&mut bytes) {
+        Ok(()) => {}
+        Err(e) if e.kind() == ErrorKind::UnexpectedEof => return Ok(false),
+        Err(e) => return Err(e),
     }
     let call = script::call_of(&bytes);
-    play_on(call, state, devices, rom, ram, a, b, border, spare);
-    true
+    play_on(rt, call, state, devices, rom, ram, a, b, border, spare)?;
+    Ok(true)
 }
 
 // A proved loop has to end, and nothing says that the input does: so it counts its turns down, from more than the stored script has.
 fn play_all(
+    rt: &impl Print,
+    input: &mut impl Read,
     state: &mut [u8],
     devices: &mut [u8],
     rom: &mut [u8],
@@ -276,14 +327,15 @@ fn play_all(
     b: &mut [u8],
     border: &mut [u8],
     spare: &mut [u8],
-) {
+) -> io::Result<()> {
     let mut turns: u32 = 1000000;
-    while turns > 0 && play_next(state, devices, rom, ram, a, b, border, spare) {
+    while turns > 0 && play_next(rt, input, state, devices, rom, ram, a, b, border, spare)? {
         turns -= 1;
     }
+    Ok(())
 }
 
-fn main() {
+fn main(rt: HostRuntime) -> io::Result<()> {
     let mut state = [0u8; record::LENGTH];
     let mut devices = [0u8; ports::DEVICES_LENGTH];
     let mut rom = [0u8; 32768];
@@ -293,6 +345,8 @@ fn main() {
     let mut border = [0u8; machine::BORDER_LENGTH];
     let mut spare = [0u8; machine::PICTURE_LENGTH];
     play_all(
+        &rt,
+        &mut rt.stdin(),
         &mut state,
         &mut devices,
         &mut rom,
@@ -301,5 +355,5 @@ fn main() {
         &mut b,
         &mut border,
         &mut spare,
-    );
+    )
 }

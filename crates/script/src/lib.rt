@@ -5,12 +5,12 @@
 
 ghost use Rattle.std.specs.Prelude.{◌<◌};
 
-use libc::STDOUT_FILENO;
+use std::io;
 
 // ---- records
 
 // An operation's letter, and three numbers that it may take.
-#[derive(Drop)]
+#[derive(Clone, Copy)]
 pub struct Call {
     pub op: u8,
     pub x: u8,
@@ -91,77 +91,83 @@ pub fn fill(bytes: &mut [u8], seed: u32) {
 
 // ---- lines
 
-fn put(byte: u8) {
-    io::write_all(STDOUT_FILENO, &[byte]);
+fn put(rt: &impl Print, byte: u8) -> io::Result<()> {
+    rt.write_all(&[byte])
 }
 
-fn field(n: u32) {
-    put(b' ');
-    io::print_decimal(STDOUT_FILENO, n as u64);
+fn field(rt: &impl Print, n: u32) -> io::Result<()> {
+    put(rt, b' ')?;
+    rt.print(n)
 }
 
-fn field_byte(b: u8) {
-    field(b as u32);
+fn field_byte(rt: &impl Print, b: u8) -> io::Result<()> {
+    field(rt, b as u32)
 }
 
-fn end_line() {
-    put(b'\n');
+fn end_line(rt: &impl Print) -> io::Result<()> {
+    put(rt, b'\n')
 }
 
-pub fn say_done(refusal: u8) {
+pub fn say_done(rt: &impl Print, refusal: u8) -> io::Result<()> {
     if refusal == 0 {
-        io::write_all(STDOUT_FILENO, b"-\n");
+        rt.write_all(b"-\n")
     } else {
-        io::write_all(STDOUT_FILENO, b"refused");
-        field(refusal as u32);
-        end_line();
+        rt.write_all(b"refused")?;
+        field(rt, refusal as u32)?;
+        end_line(rt)
     }
 }
 
-pub fn say_number(n: u32) {
-    io::print_decimal(STDOUT_FILENO, n as u64);
-    end_line();
+pub fn say_number(rt: &impl Print, n: u32) -> io::Result<()> {
+    rt.print(n)?;
+    end_line(rt)
 }
 
-pub fn say_told(refusal: u8, answer: &[u8; 5]) {
+pub fn say_told(rt: &impl Print, refusal: u8, answer: &[u8; 5]) -> io::Result<()> {
     if refusal == 0 {
-        say_number(long(answer[1], answer[2], answer[3], answer[4]));
+        say_number(rt, long(answer[1], answer[2], answer[3], answer[4]))
     } else {
-        say_done(refusal);
+        say_done(rt, refusal)
     }
 }
 
-pub fn say_timed(refusal: u8, value: u8, answer: &[u8; 10]) {
+pub fn say_timed(rt: &impl Print, refusal: u8, value: u8, answer: &[u8; 10]) -> io::Result<()> {
     if refusal == 0 {
-        io::print_decimal(STDOUT_FILENO, value as u64);
-        field_byte(answer[2]);
-        field_byte(answer[3]);
-        field(long(answer[4], answer[5], answer[6], answer[7]));
-        field(word(answer[8], answer[9]) as u32);
-        end_line();
+        rt.print(value)?;
+        field_byte(rt, answer[2])?;
+        field_byte(rt, answer[3])?;
+        field(rt, long(answer[4], answer[5], answer[6], answer[7]))?;
+        field(rt, word(answer[8], answer[9]) as u32)?;
+        end_line(rt)
     } else {
-        say_done(refusal);
+        say_done(rt, refusal)
     }
 }
 
-pub fn say_clock(state: &[u8]) {
+pub fn say_clock(rt: &impl Print, state: &[u8]) -> io::Result<()> {
     let clock = long(
         byte_at(state, 6),
         byte_at(state, 7),
         byte_at(state, 8),
         byte_at(state, 9),
     );
-    io::print_decimal(STDOUT_FILENO, clock as u64);
-    field(byte_at(state, 18) as u32);
-    end_line();
+    rt.print(clock)?;
+    field(rt, byte_at(state, 18) as u32)?;
+    end_line(rt)
 }
 
-pub fn say_digests(ram: &[u8], a: &[u8], b: &[u8], border: &[u8]) {
-    io::print_decimal(STDOUT_FILENO, digest(a) as u64);
-    field(digest(b));
-    field(digest(border));
-    field(digest(ram));
-    end_line();
+pub fn say_digests(
+    rt: &impl Print,
+    ram: &[u8],
+    a: &[u8],
+    b: &[u8],
+    border: &[u8],
+) -> io::Result<()> {
+    rt.print(digest(a))?;
+    field(rt, digest(b))?;
+    field(rt, digest(border))?;
+    field(rt, digest(ram))?;
+    end_line(rt)
 }
 
 // ---- the state record and the devices, seen from outside
@@ -230,11 +236,11 @@ pub fn no_devices(devices: &mut [u8], ay: u8) {
     }
 }
 
-pub fn set_device(call: Call, devices: &mut [u8]) {
+pub fn set_device(rt: &impl Print, call: Call, devices: &mut [u8]) -> io::Result<()> {
     let i = call.x as usize;
     if devices.len() <= i {
-        return;
+        return Ok(());
     }
     devices[i] = (call.z % 256) as u8;
-    say_done(0);
+    say_done(rt, 0)
 }

@@ -9,7 +9,6 @@ use borrow.Author.Tests.{eq-eqb, ne_eqb}
 use Rattle.ports.specs.Keys.{rows_and, keys_read}
 use Rattle.ports.proofs.Rows.{two_rows, stopped}
 use Rattle.ports.proofs.keys.Goals as goal
-use Rattle.ports.proofs.keys.Goals.{then-loop-n-test+else-value-ne0, else-loop-n-test}
 
 ended : (rows : List ℕ) (port n v : ℕ) → v ≡ rows_and rows port n → n ≡ 8 → v ≡ rows_and rows port 8
 ended rows port n v h e = h ∙ ap (rows_and rows port) e
@@ -32,11 +31,7 @@ unfolding keys_read
 returns-then-tape-eq0 c =
     let l = c.loop-n in
     let a = c.args in
-    let e : l.value ≡ rows_and a.rows a.port 8 =
-    elim c.loop-n-test.branch [
-      | then-loop-n-test+else-value-ne0 w ↦ stopped a.rows a.port l.n l.value l.invariant.2 l.invariant.0 (omega arith)
-      | else-loop-n-test w ↦ ended a.rows a.port l.n l.value l.invariant.2 (omega arith)
-    ] in
+    let e : l.value ≡ rows_and a.rows a.port 8 = search (stopped, ended, rules) in
     rw (eq-eqb _ _ c.if-tape-eq0.true, e)
 
 pub returns-else-tape-eq0 : goal.returns-else-tape-eq0
@@ -44,9 +39,5 @@ unfolding keys_read
 returns-else-tape-eq0 c =
     let l = c.loop-n in
     let a = c.args in
-    let e : l.value ≡ rows_and a.rows a.port 8 =
-    elim c.loop-n-test.branch [
-      | then-loop-n-test+else-value-ne0 w ↦ stopped a.rows a.port l.n l.value l.invariant.2 l.invariant.0 (omega arith)
-      | else-loop-n-test w ↦ ended a.rows a.port l.n l.value l.invariant.2 (omega arith)
-    ] in
+    let e : l.value ≡ rows_and a.rows a.port 8 = search (stopped, ended, rules) in
     rw (ne_eqb _ _ c.if-tape-eq0.false, e)

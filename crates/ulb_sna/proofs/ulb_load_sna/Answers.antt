@@ -1,0 +1,20 @@
+-- Refused: nothing is written. Accepted: the lengths were judged; RAM and registers are the file's, pictures and border zeros, and the record is the judged one's.
+-- Assumes nothing.
+use Rattle.contracts.specs.Timed.{lent}
+use Rattle.ulb_sna.proofs.Opened.{import_refused, import_lengths, import_accepted}
+use Rattle.ulb_sna.proofs.ulb_load_sna.Goals as goal
+
+pub read_ram-requires : goal.read_ram-requires
+read_ram-requires c = let n = import_lengths (lent c.args.state.now c.args.ram.now c.args.a.now c.args.b.now c.args.border.now) c.args.file.now c.args.registers.now c.args.machine _ c.judge_load_sna-v.ensures _ c.in-Accepted.is in (n.file_is, n.ram_is)
+
+pub read_registers-requires : goal.read_registers-requires
+read_registers-requires c = let n = import_lengths (lent c.args.state.now c.args.ram.now c.args.a.now c.args.b.now c.args.border.now) c.args.file.now c.args.registers.now c.args.machine _ c.judge_load_sna-v.ensures _ c.in-Accepted.is in (n.file_is, n.registers_is)
+
+pub encode-requires : goal.encode-requires
+encode-requires c = let n = import_lengths (lent c.args.state.now c.args.ram.now c.args.a.now c.args.b.now c.args.border.now) c.args.file.now c.args.registers.now c.args.machine _ c.judge_load_sna-v.ensures _ c.in-Accepted.is in n.state_is
+
+pub returns-in-Refused : goal.returns-in-Refused
+returns-in-Refused c = import_refused (lent c.args.state.now c.args.ram.now c.args.a.now c.args.b.now c.args.border.now) c.args.file.now c.args.registers.now c.args.machine _ c.judge_load_sna-v.ensures _ _ c.in-Refused.is c.number.ensures
+
+pub returns-in-Accepted : goal.returns-in-Accepted
+returns-in-Accepted c = import_accepted (lent c.args.state.now c.args.ram.now c.args.a.now c.args.b.now c.args.border.now) c.args.file.now c.args.registers.now c.args.machine _ c.judge_load_sna-v.ensures _ c.in-Accepted.is _ _ _ _ _ _ c.encode.ensures c.read_ram.ensures c.read_registers.ensures c.clear.ensures c.clear-in-Accepted.ensures c.clear-in-Accepted-2.ensures

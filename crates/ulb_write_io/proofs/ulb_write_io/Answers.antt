@@ -1,0 +1,37 @@
+-- Refused: only the answer is written. Accepted: the record is sound and has room, so the bus can run the call; it ends with the record and the
+-- answer of the turn that it reached.
+-- Assumes nothing.
+use mathlib.Core.Path.{sym, ◌∙◌}
+use Rattle.judgement.proofs.Accepted.{ready_port}
+use Rattle.contracts.specs.Timed.{lent, write_io}
+use Rattle.timed.proofs.Timing.{ready_io, timed_refused, timed_accepted}
+use Rattle.ulb_write_io.proofs.ulb_write_io.Goals as goal
+
+pub devices_from-devices-requires : goal.devices_from-devices-requires
+devices_from-devices-requires c = let g = c.args in (ready_port g.state.now _ g.devices.now _ _ _ _ _ (sym c.judge_port-v.ensures ∙ c.in-Accepted.is)).devices_is
+
+pub write_io-written-requires : goal.write_io-written-requires
+write_io-written-requires c =
+    let g = c.args in
+    ready_io _ c.begun-begun.result g.ram.now g.a.now g.b.now g.border.now (c.begun-begun.ensures _ _ _ _) _ _ _
+    (ready_port g.state.now _ g.devices.now _ _ _ _ _ (sym c.judge_port-v.ensures ∙ c.in-Accepted.is))
+
+pub finish-requires : goal.finish-requires
+finish-requires c =
+    let g = c.args in
+    let r = ready_port g.state.now _ g.devices.now _ _ _ _ _ (sym c.judge_port-v.ensures ∙ c.in-Accepted.is) in
+    (r.on_record.long, r.fit.answer_is)
+
+pub returns-in-Refused : goal.returns-in-Refused
+unfolding write_io
+returns-in-Refused c =
+    let g = c.args in
+    timed_refused _ _ c.judge_port-v.ensures _ _ (lent g.state.now g.ram.now g.a.now g.b.now g.border.now) g.answer.now _ _ _ c.in-Refused.is c.refuse.ensures
+
+pub returns-in-Accepted : goal.returns-in-Accepted
+unfolding write_io
+returns-in-Accepted c =
+    let g = c.args in
+    let e = c.devices_from-devices.ensures in
+    let io = c.write_io-written.ensures in
+    timed_accepted _ _ c.judge_port-v.ensures _ _ (lent g.state.now g.ram.now g.a.now g.b.now g.border.now) g.answer.now _ _ _ _ _ _ _ _ _ _ c.in-Accepted.is (c.begun-begun.ensures _ _ _ _) (rw e at io.0) (rw e at io.1) c.finish.ensures
