@@ -13,8 +13,8 @@ use Rattle.screen.specs.declared.Helped.TheVariants.{Number}
 use Rattle.screen.specs.Address.{line_address}
 use Rattle.memory.specs.Paging.{write7ffd, paging_after, paged_code}
 use Rattle.border.specs.Edge.{Edge}
-use Rattle.bus.specs.World.{Core, Screen, World}
-use Rattle.bus.specs.Turns.{Turn, ran_by, fresh}
+use Rattle.bus.specs.World.{Screen, World}
+use Rattle.bus.specs.Turns.{ran_by, fresh}
 use Rattle.bus.specs.Calls.{port_read}
 
 -- a clock and what it gives; a clock, the border position there and whether it is frame end; a line and its address; a port, the clock at

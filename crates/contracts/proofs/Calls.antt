@@ -2,12 +2,11 @@
 -- The cases of `Refusals`, as one law each.
 -- Assumes nothing.
 use Prim.Native.Nat.{ℕ}
-use mathlib.Core.List.{List, []}
+use mathlib.Core.List.{List}
 use mathlib.Core.Path.{◌≡◌, refl, ap}
 use Rattle.judgement.specs.Order.{Numbered}
 use Rattle.contracts.specs.Timed.{Lent}
-use Rattle.contracts.specs.Plain.{told}
-use Rattle.contracts.specs.Calls.{Start, plain_start, colour_start, snapshot_start, started_by, lent_to_fill, filled_by, start_causes_of, TimedCall, plain, mreq, no_mreq, port_in, port_out, Helper, line_addr, line_of, column_of, attr_row_of, attr_column_of, colour_bits, Question, byte_read, paging_read, interrupt_asked, frames_asked, page_asked, block_asked, shown_asked, still_asked, file_asked, snapshot_asked, help, Call, start_again, take_time, write_byte, write_paging, reset_passed, load_ram, load_screen, ask, Result, result, with_ram, with_state, waited, helped_by, replied, performed, timed_causes, helper_range, helper_causes, question_causes, causes_of, refused_reply, refused_filled}
+use Rattle.contracts.specs.Calls.{Start, plain_start, colour_start, snapshot_start, started_by, lent_to_fill, filled_by, start_causes_of, TimedCall, plain, mreq, no_mreq, port_in, port_out, Helper, line_addr, line_of, column_of, attr_row_of, attr_column_of, colour_bits, Question, byte_read, paging_read, interrupt_asked, frames_asked, page_asked, block_asked, shown_asked, still_asked, file_asked, snapshot_asked, help, Call, start_again, take_time, write_byte, write_paging, reset_passed, load_ram, load_screen, ask, result, waited, helped_by, replied, performed, timed_causes, helper_range, helper_causes, question_causes, causes_of, refused_reply, refused_filled}
 use Rattle.contracts.specs.Helpers.{helper_call}
 use Rattle.contracts.proofs.Refusals as refusals
 

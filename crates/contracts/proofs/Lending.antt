@@ -8,9 +8,8 @@ use lib.ListN.{length, take, take-append-drop, length-take, length-append, drop_
 use lib.Seq.{take_all, take-take, take-append_seam, take-append-le}
 use Rattle.laws.proofs.Cases.{split}
 use Rattle.machine.specs.declared.ZXMachine.{ZXMachine}
-use Rattle.machine.specs.Numbers.{specs_of}
 use Rattle.record.specs.Record.{record_bytes}
-use Rattle.bus.specs.World.{World, bus_of, Sized}
+use Rattle.bus.specs.World.{World, bus_of}
 use Rattle.bus.proofs.Lengths.{SameLengths}
 use Rattle.contracts.specs.Timed.{Lent, lent_by}
 use Rattle.contracts.specs.Calls.{with_ram, with_state, Portion, lend, hand_back, Portions, lent_of, handed_back}

@@ -1,6 +1,6 @@
 -- The ranges of a call's numbers, and of a snapshot's bytes, as far as what is proved of calls rests on them. No promise does: crate `runs` shows them of the functions' own types.
 -- Assumes nothing.
-use Prim.Native.Nat.{ℕ, ◌<◌, ◌^◌}
+use Prim.Native.Nat.{◌<◌, ◌^◌}
 use mathlib.Core.List.{List}
 use Rattle.record.specs.Words.{Bytes}
 use Rattle.contracts.specs.Calls.{plain_start, colour_start, snapshot_start, plain, mreq, no_mreq, port_in, port_out, Question, byte_read, paging_read, interrupt_asked, frames_asked, page_asked, block_asked, shown_asked, still_asked, file_asked, snapshot_asked, help, Call, start_again, take_time, write_byte, write_paging, reset_passed, load_ram, load_screen, ask, Made, Each}

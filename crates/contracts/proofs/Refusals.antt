@@ -7,7 +7,7 @@ use mathlib.Core.Path.{◌≡◌, refl, sym, ap, ◌∙◌}
 use mathlib.Core.Bool.{Bool, true, false, cond, not}
 use mathlib.Core.List.{List, [], ◌∷◌}
 use native.Mathlib.Omega.{arith}
-use lib.Dec.{ltb, leb}
+use lib.Dec.{leb}
 use lib.ListN.{length, get_or}
 use Rattle.machine.specs.declared.ZXMachine.{ZXMachine}
 use Rattle.machine.specs.declared.ZXMachine.TheVariants.{Sinclair48K}
@@ -26,7 +26,7 @@ use Rattle.judgement.specs.declared.Refusal.TheVariants.{BadMachine, BadLength, 
 use Rattle.judgement.specs.declared.Verdict.{Verdict}
 use Rattle.judgement.specs.declared.Verdict.TheVariants.{Refused, Accepted}
 use Rattle.judgement.specs.Refusals.{refusal_number, Cause, cause, judged}
-use Rattle.judgement.specs.Judges.{number_fits, unless, no_causes, start_causes, wait_causes, port_causes, told_causes, read_causes, write_causes, load_causes, ram_page_causes, block_causes, shown_causes, still_causes, save_scr_causes, load_scr_causes, save_sna_causes, judge_state, judge_told, judge_read, judge_write, judge_load, judge_ram_page, judge_block, judge_shown, judge_still, judge_save_scr, judge_load_scr, judge_save_sna}
+use Rattle.judgement.specs.Judges.{number_fits, unless, no_causes, wait_causes, port_causes, told_causes, read_causes, write_causes, load_causes, ram_page_causes, block_causes, shown_causes, still_causes, save_scr_causes, load_scr_causes, save_sna_causes, judge_state, judge_told, judge_read, judge_write, judge_load, judge_ram_page, judge_block, judge_shown, judge_still, judge_save_scr, judge_load_scr, judge_save_sna}
 use Rattle.judgement.specs.Answers.{refused_answer, timed_length, number_length}
 use Rattle.judgement.specs.Order.{Ordered, Numbered, document_order, numbers_of, stand_in, all_causes}
 use Rattle.judgement.proofs.Order.{by_list, start_ordered, start_colour_ordered, state_ordered, wait_ordered, port_ordered, told_ordered, read_ordered, write_ordered, load_ordered, ram_page_ordered, block_ordered, shown_ordered, still_ordered, save_scr_ordered, load_scr_ordered, load_sna_ordered, save_sna_ordered}

@@ -2,7 +2,7 @@
 -- import gives the file back but for bits 3..7 of byte 26"; and where an import is refused with 10 and with 11.
 -- Assumes nothing.
 use Prim.Native.Nat.{ℕ, ◌≤◌, ◌<◌, ◌^◌}
-use mathlib.Core.Bool.{Bool, true, false, not, ◌&&◌}
+use mathlib.Core.Bool.{Bool, true, false, not}
 use mathlib.Core.List.{List, [], ◌∷◌, ◌++◌}
 use mathlib.Core.Path.{◌≡◌, refl, sym, ap, ◌∙◌}
 use native.Mathlib.Omega.{arith}
@@ -17,7 +17,6 @@ use Rattle.record.specs.declared.Held.{Held}
 use Rattle.record.specs.declared.Held.TheVariants as held
 use Rattle.record.specs.Words.{Bytes}
 use Rattle.record.specs.Record.{record_of, record_bytes, held_by, machine_number, machine_of, fresh_record}
-use Rattle.record.specs.Sound.{Sound}
 use Rattle.record.proofs.Soundness.{facts_sound}
 use Rattle.record.proofs.Round.{held_encode}
 use Rattle.snapshot.specs.File.{header_length, border_at, paging_in, border_in, due_size, ram_in, copies_differ}

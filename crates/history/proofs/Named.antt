@@ -9,14 +9,11 @@ use borrow.Author.Tests.{eq-eqb}
 use Rattle.laws.proofs.Cases.{and_both}
 use Rattle.machine.specs.declared.ZXMachine.{ZXMachine}
 use Rattle.machine.specs.Limits.{picture_length}
-use Rattle.record.specs.declared.Bus.{Bus}
-use Rattle.record.specs.Record.{record_of, sound_bytes}
 use Rattle.record.proofs.Soundness.{facts_sound}
 use Rattle.record.proofs.Round.{sound_encode, sound_fits}
 use Rattle.bus.specs.World.{World, bus_of, Sized}
 use Rattle.bus.specs.Time.{shows_a, shown_picture}
 use Rattle.bus.proofs.Kept.{SoundWorld}
-use Rattle.judgement.specs.declared.Verdict.{Verdict}
 use Rattle.judgement.specs.declared.Verdict.TheVariants.{Accepted}
 use Rattle.judgement.specs.Answers.{number_length}
 use Rattle.judgement.specs.Order.{NoneHolds}

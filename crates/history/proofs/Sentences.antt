@@ -21,7 +21,7 @@ use Rattle.record.proofs.Soundness.{facts_sound}
 use Rattle.record.proofs.Round.{held_encode}
 use Rattle.paint.proofs.Painting.{paint_out}
 use Rattle.memory.specs.Memory.{ram_page}
-use Rattle.bus.specs.World.{World, bus_of, Sized}
+use Rattle.bus.specs.World.{World, bus_of}
 use Rattle.bus.specs.Time.{Stall, lasts, Op, step, tick, colour, silent, look_at, shows_a, shown_picture, hidden_picture, caught_up, closes, in_core, in_screen, in_edge, does, world_after}
 use Rattle.bus.specs.Turns.{closed_by}
 use Rattle.bus.proofs.OneStep.{core_goes, screen_closed, screen_goes, closes_at}

@@ -2,7 +2,7 @@
 -- the picture shown is the one that `ulb_still_picture` paints of a record and RAM that hold these.
 -- Assumes nothing.
 use Prim.Native.Nat.{ℕ, ◌+◌, ◌-◌}
-use mathlib.Core.List.{List, [], ◌∷◌, ◌++◌}
+use mathlib.Core.List.{List, [], ◌∷◌}
 use mathlib.Core.Path.{◌≡◌, refl, ap, ◌∙◌}
 use native.Mathlib.Omega.{arith}
 use Rattle.machine.specs.declared.ZXMachine.{ZXMachine}
@@ -12,7 +12,7 @@ use Rattle.paint.proofs.Painting.{blocks_add}
 use Rattle.bus.specs.World.{World, bus_of}
 use Rattle.bus.specs.Time.{Look, flash_on}
 use Rattle.contracts.specs.Plain.{still_of}
-use Rattle.history.specs.Log.{Sight, sight_at, Frame, last_at, drawn_by, drawn, Shot, Rising, Shows}
+use Rattle.history.specs.Log.{Sight, sight_at, Frame, last_at, drawn, Shot, Rising, Shows}
 use Rattle.history.proofs.Seen.{seen_is_painted}
 
 -- every catch-up saw what this one sees

@@ -1,15 +1,14 @@
 -- FROM CALLS TO OPERATIONS: whatever was lent, the buffers after a call hold the world after its operations, byte for byte, and what its answer
 -- reports is what they report. A refused call has no operations.
 -- Assumes nothing.
-use Prim.Native.Nat.{ℕ, ◌+◌, ◌≤◌}
+use Prim.Native.Nat.{ℕ, ◌+◌}
 use mathlib.Core.Bool.{Bool, true, false, cond}
-use mathlib.Core.List.{List, [], ◌∷◌}
+use mathlib.Core.List.{List, []}
 use mathlib.Core.Path.{◌≡◌, refl, sym, ◌∙◌, ap, subst}
 use native.Mathlib.Omega.{arith}
 use native.Mathlib.Nat.{zero-add}
 use lib.Dec.{eqb}
 use borrow.Author.Tests.{eqb-true, eqb-false}
-use Rattle.laws.proofs.Cases.{cond_same}
 use Rattle.laws.proofs.Words.{word_back, long_back}
 use Rattle.machine.specs.declared.ZXMachine.{ZXMachine}
 use Rattle.record.specs.Words.{byte_at, word_at, long_at}
@@ -21,11 +20,11 @@ use Rattle.bus.specs.Time.{Op, world_after}
 use Rattle.bus.proofs.Runs.{clocks_in, blocks_in}
 use Rattle.bus.proofs.PortClocks.{read_small, write_small}
 use Rattle.bus.proofs.Kept.{SoundWorld}
-use Rattle.contracts.specs.Timed.{Lent, lent_by, Outcome}
-use Rattle.contracts.specs.Calls.{TimedCall, plain, mreq, no_mreq, port_in, port_out, Call, start_again, take_time, write_byte, write_paging, reset_passed, load_ram, load_screen, ask, Result, waited, timed_ops, ops_of, performed, timed_causes, Portions, lent_of, handed_back, Made, buffers_after, NotStarted}
+use Rattle.contracts.specs.Timed.{Lent, lent_by}
+use Rattle.contracts.specs.Calls.{TimedCall, plain, mreq, no_mreq, port_in, port_out, Call, start_again, take_time, write_byte, write_paging, reset_passed, load_ram, load_screen, ask, Result, timed_ops, ops_of, performed, Portions, lent_of, Made, buffers_after, NotStarted}
 use Rattle.contracts.proofs.Ranges.{Typed}
 use Rattle.contracts.proofs.Calls.{call_numbered}
-use Rattle.contracts.proofs.Acts.{sized_kept, Kept, timed_kept, timed_left, few_blocks, Acted, acted}
+use Rattle.contracts.proofs.Acts.{sized_kept, timed_kept, timed_left, few_blocks, acted}
 use Rattle.contracts.proofs.AsWhole.{as_whole, as_refused}
 use Rattle.history.specs.Reports.{reported, reported_clocks, reported_blocks, reported_closed, PortTakes}
 use Rattle.history.specs.Demand.{operations}

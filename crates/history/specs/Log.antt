@@ -11,7 +11,7 @@ use Rattle.machine.specs.Pages.{passed}
 use Rattle.paint.specs.Paint.{block_at, blocks}
 use Rattle.memory.specs.Memory.{ram_page}
 use Rattle.bus.specs.World.{Core, World, clear_picture}
-use Rattle.bus.specs.Time.{lasts, Op, step, tick, colour, silent, closes, in_core, does, shown_picture}
+use Rattle.bus.specs.Time.{lasts, Op, step, colour, silent, closes, in_core, does, shown_picture}
 
 -- what a catch-up sees: how many blocks have come, and "the bytes, shown page and flash held"
 pub record Sight : Type 0 where
