@@ -121,10 +121,10 @@ unfolding caught_up paint
 nothing_caught l true s h = rw h
 nothing_caught l false s h = rw h
 
--- Where the first step closes the frame, the two are still one as long as what is left over, in all, ends before the new frame's first
--- block: past that block the two steps paint it into the new frame and the one step does not, nor into the finished one.
+-- The first step closes the frame, the second does not, and what is left over, in all, reaches no block of the new one.
 module _ (a b : ℕ) (t : Turn) (over : (specs_of t.machine).frame ≤ t.world.core.clock + a)
-    (early : t.world.core.clock + (a + b) < (specs_of t.machine).frame + (specs_of t.machine).block) where
+    (inside : t.world.core.clock + (a + b) < (specs_of t.machine).frame + (specs_of t.machine).frame)
+    (left_place : block_position (specs_of t.machine) (t.world.core.clock + a - (specs_of t.machine).frame + b) ≡ 0) where
   abbrev m : ZXMachine
   m = t.machine
 
@@ -135,13 +135,10 @@ module _ (a b : ℕ) (t : Turn) (over : (specs_of t.machine).frame ≤ t.world.c
   first_closes = closes_if m a c over
 
   second_goes : closes m b (wrapped m a c) ≡ false
-  second_goes = goes_on_if m b (wrapped m a c) (omega (arith, (regular m).blocks_in_frame))
+  second_goes = goes_on_if m b (wrapped m a c) (omega arith)
 
   both_close : closes m (a + b) c ≡ true
   both_close = closes_if m (a + b) c (omega arith)
-
-  left_place : block_position (specs_of m) (c.clock + a - (specs_of m).frame + b) ≡ 0
-  left_place = position_before (specs_of m) (c.clock + a - (specs_of m).frame + b) (omega arith)
 
   core_over : in_core m (tick b) (in_core m (tick a) c) ≡ in_core m (tick (a + b)) c
   core_over =
@@ -178,9 +175,9 @@ module _ (a b : ℕ) (t : Turn) (over : (specs_of t.machine).frame ≤ t.world.c
   unfolding closed_by
   closed_over x = rw (core_closed m a c first_closes, first_closes, second_goes, both_close, or-false)
 
-  pub steps_merge_over : turned (tick b) (turned (tick a) t) ≡ turned (tick (a + b)) t
+  one_over : turned (tick b) (turned (tick a) t) ≡ turned (tick (a + b)) t
   unfolding turned clocks_of
-  steps_merge_over =
+  one_over =
       let w = t.world in
       same_turn m (does m (tick b) (does m (tick a) w)) (does m (tick (a + b)) w) _ _ _ _ _ _
       core_over
@@ -190,13 +187,26 @@ module _ (a b : ℕ) (t : Turn) (over : (specs_of t.machine).frame ≤ t.world.c
       (add_assoc t.blocks (blocks_of m (tick a) w) (blocks_of m (tick b) (does m (tick a) w)) ∙ ap (λ (n : ℕ). t.blocks + n) blocks_over)
       (closed_over t.closed)
 
+-- Where the first step closes the frame, the two are still one as long as what is left over, in all, ends before the new frame's first
+-- block: past that block the two steps paint it into the new frame and the one step does not, nor into the finished one.
+module _ (a b : ℕ) (t : Turn) (over : (specs_of t.machine).frame ≤ t.world.core.clock + a)
+    (early : t.world.core.clock + (a + b) < (specs_of t.machine).frame + (specs_of t.machine).block) where
+  pub steps_merge_over : turned (tick b) (turned (tick a) t) ≡ turned (tick (a + b)) t
+  steps_merge_over =
+      let m = t.machine in
+      one_over a b t over (omega (arith, (regular m).blocks_in_frame))
+      (position_before (specs_of m) (t.world.core.clock + a - (specs_of m).frame + b) (omega arith))
+
 -- SHORT STEPS MERGE, wherever they fall: with the painted count in place, and what is left over, if anything, before the first block.
 pub short_merge : (a b : ℕ) (t : Turn) → t.world.screen.painted ≤ block_position (specs_of t.machine) t.world.core.clock
     → t.world.core.clock + (a + b) < (specs_of t.machine).frame + (specs_of t.machine).block
     → turned (tick b) (turned (tick a) t) ≡ turned (tick (a + b)) t
 short_merge a b t behind early =
     split (specs_of t.machine).frame (t.world.core.clock + a)
-    (λ over. steps_merge_over a b t over early)
+    (λ over.
+    let m = t.machine in
+    one_over a b t over (omega (arith, (regular m).blocks_in_frame))
+    (position_before (specs_of m) (t.world.core.clock + a - (specs_of m).frame + b) (omega arith)))
     (λ goes. steps_merge a b t goes behind)
 
 -- TWO CALLS. On a sound world, a plain wait of a clocks that reports no closing and then one of b leave the world that one of a + b
