@@ -1,3 +1,4 @@
+pub mod HelperRange
 pub mod Obeyed
 pub mod Possible
 pub mod Demands

@@ -1,7 +1,7 @@
 -- EACH STEP OF A RUN IS ITS DEFINITION: whatever number and whatever exit the contract of a function admits, they are those of the call's definition; and the
 -- call's numbers are in the ranges of the function's own types.
 -- Assumes nothing.
-use Prim.Native.Nat.{ℕ, ◌<◌, ◌^◌}
+use Prim.Native.Nat.{ℕ}
 use mathlib.Core.List.{List, [], ◌∷◌}
 use mathlib.Core.Path.{◌≡◌, sym, ◌∙◌, ap}
 use contract.Lifetimes.{Lfts}
@@ -12,16 +12,9 @@ use Rattle.contracts.specs.Calls.{Start, plain_start, colour_start, snapshot_sta
 use Rattle.contracts.proofs.Ranges.{TypedQuestion, Typed, AllTyped}
 use Rattle.contracts.specs.Helpers.{helper_call}
 use Rattle.runs.specs.Run.{Slice, slice, Where, HelperAdmits, Replies, Steps, Run, Begins}
+use Rattle.runs.proofs.HelperRange.{help_range}
 
 -- ---- the ranges of a call's numbers
-help_range : (h : Helper) (κs : Lfts 1) (n : ℕ) (answer : Slice) (code : ℕ) (answer' : Slice) → HelperAdmits h κs n answer code answer' → n < 2 ^ 32
-help_range line_addr κs n answer code answer' s = s.0.0.1
-help_range line_of κs n answer code answer' s = s.0.0.1
-help_range column_of κs n answer code answer' s = s.0.0.1
-help_range attr_row_of κs n answer code answer' s = s.0.0.1
-help_range attr_column_of κs n answer code answer' s = s.0.0.1
-help_range colour_bits κs n answer code answer' s = s.0.0.1
-
 ask_range : (q : Question) (at : ℕ → Where) (l : Lent) (out : List ℕ) (code : ℕ) (filled : List ℕ) → Replies q at l out code filled → TypedQuestion q
 ask_range (byte_read rom addr) at l out code filled s = s.1.0.1.1.1.0.1
 ask_range paging_read at l out code filled s = tt

@@ -103,7 +103,7 @@ white_same number rom x s =
     record {
       machine = s.machine;
       named = s.named;
-      leaves = subst (λ (c : ZXController). SameLent rom (with_rom rom c) x.slices) (white_beam s.machine s.color s.coloured) s.leaves;
+      leaves = subst (λ (c : ZXController). SameLent rom (with_rom rom c) x.slices) (ap (λ (k : ZXColor). set_beam k (new s.machine)) (white_byte s.color s.coloured) ∙ white_is_new s.machine) s.leaves;
     }
 
 -- ULB_START_COLOUR WITH 7 is ZXController::new of the machine that its number names, with the ROM loaded.
