@@ -84,7 +84,7 @@ beam_same how clears l rom long z =
     }
 
 -- colour 7 is white
-white_byte : (color : ZXColor) → color_byte color ≡ 7 → color ≡ White
+pub white_byte : (color : ZXColor) → color_byte color ≡ 7 → color ≡ White
 white_byte Black e = absurd (omega arith)
 white_byte Blue e = absurd (omega arith)
 white_byte Red e = absurd (omega arith)
