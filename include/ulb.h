@@ -29,15 +29,16 @@
  *   12,904                568  ulb_write_io
  *   12,584                248  ulb_read_io
  *   12,552                216  ulb_wait_internal, ulb_wait_mreq, ulb_wait_no_mreq
- *   12,472                200  ulb_still_picture
+ *   12,472                208  ulb_still_picture
+ *      240                     ulb_read_internal
  *      232                     ulb_load_sna
- *      216                     ulb_read_internal
- *      200                     ulb_load_page, ulb_load_scr
- *      184                     ulb_save_scr, ulb_block
- *      168                     ulb_write_7ffd, ulb_ram_page, ulb_shown_picture
+ *      208                     ulb_load_page, ulb_load_scr
+ *      192                     ulb_save_scr, ulb_block
+ *      176                     ulb_write_7ffd, ulb_ram_page, ulb_shown_picture
  *      152                     ulb_start, ulb_start_colour
- *      136                     ulb_read_7ffd, ulb_int_active, ulb_frames_count, ulb_save_sna
- *      120                     ulb_reset_frame_counter
+ *      144                     ulb_read_7ffd, ulb_int_active, ulb_frames_count
+ *      136                     ulb_save_sna
+ *      128                     ulb_reset_frame_counter
  *       64                     ulb_write_internal
  *       16                     ulb_bitmap_line_addr, ulb_bitmap_line_rel, ulb_bitmap_col_rel, ulb_attr_row_rel,
  *                              ulb_attr_col_rel, ulb_color_from_bits
