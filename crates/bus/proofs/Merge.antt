@@ -82,28 +82,37 @@ module _ (a b : ℕ) (t : Turn) (goes : t.world.core.clock + a < (specs_of t.mac
   quiet : closes t.machine a t.world.core ≡ false
   quiet = goes_on_if t.machine a t.world.core goes
 
+  blocks_within : t.world.screen.painted ≤ block_position (specs_of t.machine) (t.world.core.clock + a)
+      → blocks_of t.machine (tick a) t.world + blocks_of t.machine (tick b) (does t.machine (tick a) t.world)
+      ≡ blocks_of t.machine (tick (a + b)) t.world
+  unfolding blocks_of caught_up
+  blocks_within behind =
+      let m = t.machine in
+      let c = t.world.core in
+      let k = blocks_mono (specs_of m) (regular m).wide (c.clock + a) (c.clock + (a + b)) (omega arith) in
+      rw (core_goes m a c quiet, screen_goes m a c t.world.screen quiet, add_assoc) (omega arith)
+
+  one_within : t.world.screen.painted ≤ block_position (specs_of t.machine) (t.world.core.clock + a)
+      → turned (tick b) (turned (tick a) t) ≡ turned (tick (a + b)) t
+  unfolding turned clocks_of
+  one_within behind =
+      let m = t.machine in
+      let w = t.world in
+      same_turn m (does m (tick b) (does m (tick a) w)) (does m (tick (a + b)) w) _ _ _ _ _ _
+      (core_merge m a b w.core quiet)
+      (screen_merge m a b w.core quiet w.screen behind)
+      (edge_merge m a b w.core quiet w.edge)
+      (add_assoc t.clocks a b)
+      (add_assoc t.blocks (blocks_of m (tick a) w) (blocks_of m (tick b) (does m (tick a) w)) ∙ ap (λ (n : ℕ). t.blocks + n) (blocks_within behind))
+      (closed_merge m a b w.core quiet t.closed)
+
   module _ (behind : t.world.screen.painted ≤ block_position (specs_of t.machine) (t.world.core.clock + a)) where
     blocks_merge : blocks_of t.machine (tick a) t.world + blocks_of t.machine (tick b) (does t.machine (tick a) t.world)
         ≡ blocks_of t.machine (tick (a + b)) t.world
-    unfolding blocks_of caught_up
-    blocks_merge =
-        let m = t.machine in
-        let c = t.world.core in
-        let k = blocks_mono (specs_of m) (regular m).wide (c.clock + a) (c.clock + (a + b)) (omega arith) in
-        rw (core_goes m a c quiet, screen_goes m a c t.world.screen quiet, add_assoc) (omega arith)
+    blocks_merge = blocks_within behind
 
     pub steps_merge_at : turned (tick b) (turned (tick a) t) ≡ turned (tick (a + b)) t
-    unfolding turned clocks_of
-    steps_merge_at =
-        let m = t.machine in
-        let w = t.world in
-        same_turn m (does m (tick b) (does m (tick a) w)) (does m (tick (a + b)) w) _ _ _ _ _ _
-        (core_merge m a b w.core quiet)
-        (screen_merge m a b w.core quiet w.screen behind)
-        (edge_merge m a b w.core quiet w.edge)
-        (add_assoc t.clocks a b)
-        (add_assoc t.blocks (blocks_of m (tick a) w) (blocks_of m (tick b) (does m (tick a) w)) ∙ ap (λ (n : ℕ). t.blocks + n) blocks_merge)
-        (closed_merge m a b w.core quiet t.closed)
+    steps_merge_at = one_within behind
 
   -- the same from soundness: the painted count is at or below the position of the clock
   pub steps_merge : t.world.screen.painted ≤ block_position (specs_of t.machine) t.world.core.clock
@@ -111,7 +120,7 @@ module _ (a b : ℕ) (t : Turn) (goes : t.world.core.clock + a < (specs_of t.mac
   steps_merge h =
       let m = t.machine in
       let k = blocks_mono (specs_of m) (regular m).wide t.world.core.clock (t.world.core.clock + a) (omega arith) in
-      steps_merge_at (omega arith)
+      one_within (omega arith)
 
 -- ---- where the first step closes the frame
 

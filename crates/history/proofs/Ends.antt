@@ -188,10 +188,10 @@ module _ (m : ZXMachine) where
   short_leaves f few w h z = run_ends (f w.core) w (few w.core) h z
 
   pub read_leaves : (port : ℕ) → LeavesBorder (port_read m port)
-  read_leaves port = short_leaves (port_read m port) (λ c. omega (arith, (read_small m port c).1))
+  read_leaves port w h z = run_ends (port_read m port w.core) w (omega (arith, (read_small m port w.core).1)) h z
 
   pub write_leaves : (d : Devices) (port v : ℕ) → LeavesBorder (port_write m d port v)
-  write_leaves d port v = short_leaves (port_write m d port v) (λ c. omega (arith, (write_small m d port v c).1))
+  write_leaves d port v w h z = run_ends (port_write m d port v w.core) w (omega (arith, (write_small m d port v w.core).1)) h z
 
 -- another shot of the same picture and border shows the frame too
 newest_shows : (ss : List Shot) (fs : List Frame) → AllShow ss fs → 0 < length fs → (s : Shot) → s.picture ≡ newest fs

@@ -13,6 +13,7 @@ pub mod Named
 pub mod Good
 pub mod Demand3
 pub mod Sentences
+pub mod Saw
 pub mod Stills
 pub mod Files
 pub mod First

@@ -13,12 +13,8 @@ use Rattle.bus.specs.World.{World, bus_of}
 use Rattle.bus.specs.Time.{Look, flash_on}
 use Rattle.contracts.specs.Plain.{still_of}
 use Rattle.history.specs.Log.{Sight, sight_at, Frame, last_at, drawn, Shot, Rising, Shows}
+use Rattle.history.proofs.Saw.{AllSaw}
 use Rattle.history.proofs.Seen.{seen_is_painted}
-
--- every catch-up saw what this one sees
-abbrev pub AllSaw : Sight → List Sight → Type 0
-AllSaw g [] = Unit {0}
-AllSaw g (s ∷ ss) = (s.ram ≡ g.ram) × (s.page ≡ g.page) × (s.flash ≡ g.flash) × AllSaw g ss
 
 module _ (g : Sight) where
   abbrev seen : ℕ → ℕ → List ℕ

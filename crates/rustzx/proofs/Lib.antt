@@ -1,4 +1,5 @@
 pub mod Loops
+pub mod Asked
 pub mod Timing
 pub mod Helpers
 pub mod Borders

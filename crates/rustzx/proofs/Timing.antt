@@ -22,21 +22,9 @@ use Rattle.rustzx.specs.Machine.{ZXSpecs, ZXMachine, Sinclair48K, Sinclair128K, 
 use Rattle.rustzx.specs.Screen.{BlocksCount, in_canvas, in_line, from_clocks}
 use Rattle.rustzx.specs.Border.{Next, clocks_origin, in_height, in_width, next_border_pixel}
 use Rattle.rustzx.specs.Related.{our_machine}
+use Rattle.rustzx.proofs.Asked.{SameNumbers}
 
 -- ---- the numbers
--- What the theorems ask of a machine's numbers in the Rust and in document 01's table: each is proved once over these, and a machine is one line.
-pub record SameNumbers (s : ZXSpecs) (o : table.ZXSpecs) : Type 0 where
-  pub line : s.clocks.line ≡ o.line
-  pub frame : s.clocks_frame ≡ o.frame
-  pub contention : s.clocks_first_pixel - 1 ≡ o.contention
-  pub read : s.clocks_ula_read_origin ≡ o.block
-  pub floating : s.clocks_first_pixel + 2 ≡ o.block
-  pub origin : clocks_origin s ≡ o.border
-  pub screen_lines : s.lines.screen ≡ 192
-  pub screen_row : s.clocks.screen_row ≡ 128
-  pub delays : s.contention_pattern ≡ pattern
-  pub pulse : s.interrupt_length ≡ 32
-
 pub numbers : (m : ZXMachine) → SameNumbers (specs m) (specs_of (our_machine m))
 numbers Sinclair48K = record { line = refl; frame = refl; contention = refl; read = refl; floating = refl; origin = refl; screen_lines = refl; screen_row = refl; delays = refl; pulse = refl }
 numbers Sinclair128K = record { line = refl; frame = refl; contention = refl; read = refl; floating = refl; origin = refl; screen_lines = refl; screen_row = refl; delays = refl; pulse = refl }
