@@ -15,8 +15,7 @@ ghost use Rattle.steps.specs.Turned.{turn_of, core_of, Ready};
 ghost use Rattle.calls.specs.Paged.{paged_write};
 
 use border::Beam;
-use machine::ZXMachine;
-use memory::Place;
+use memory::{Map, Place};
 use ports::{Answer, Devices, FloatingAddress, Written};
 use record::Bus;
 use steps::Turning;
@@ -36,12 +35,11 @@ pub struct WriteTurn {
 }
 
 // The byte at an address of the picture, which is never in ROM, so that none is lent.
-fn picture_byte(m: ZXMachine, paging: u8, ram: &[u8], addr: u16) -> u8
-    requires { length ram.now ≡ (specs_of m).ram }
-    ensures { result ≡ peeked m paging [] ram.now addr }
+fn picture_byte(map: Map, ram: &[u8], addr: u16) -> u8
+    requires { length ram.now ≡ (specs_of map.machine).ram }
+    ensures { result ≡ peeked map.machine map.paging [] ram.now addr }
 {
-    let place = memory::place_of(m, paging, addr);
-    match place {
+    match map.place_of(addr) {
         Place::Rom(_) => 0,
         Place::Ram(at) => ram[at],
     }
@@ -52,12 +50,11 @@ pub fn floating_bus_value(bus: Bus, clock: u32, ram: &[u8]) -> u8
     requires { length ram.now ≡ (specs_of bus.machine).ram }
     ensures { result ≡ floating_bus bus.machine (at_clock clock (core_of bus ram.now)) }
 {
-    let m = bus.machine;
-    let place = ports::floating_place(m, clock);
+    let place = ports::floating_place(bus.machine, clock);
     let address = ports::floating_address(place);
     match address {
         FloatingAddress::Idle => 0xFF,
-        FloatingAddress::At(addr) => picture_byte(m, bus.paging, ram, addr),
+        FloatingAddress::At(addr) => picture_byte(Map::from(bus), ram, addr),
     }
 }
 
@@ -139,9 +136,9 @@ pub fn write_7ffd(t: Turning, value: u8) -> WriteTurn
 {
     let bus = t.bus;
     let m = bus.machine;
-    let taken = memory::write_7ffd(m, bus.paging, value);
-    let code = memory::paged_code(taken);
-    let paging = memory::paging_after(taken, bus.paging);
+    let taken = Map::from(bus).write_7ffd(value);
+    let code = taken.code();
+    let paging = taken.paging_after(bus.paging);
     let bus = Bus {
         machine: m,
         clock: bus.clock,
