@@ -6,4 +6,5 @@ use Rattle.calls.proofs.write_7ffd.Goals as goal
 pub returns : goal.returns
 returns c =
     let g = c.args in
-    (repaged_is g.t g.value _ _ c.write_7ffd-taken.ensures c.paging_after-paging.ensures, c.paged_code-code.ensures ∙ ap paged_code c.write_7ffd-taken.ensures)
+    let taken = rw c.from.ensures at c.write_7ffd-taken.ensures in
+    (repaged_is g.t g.value _ _ taken c.paging_after-paging.ensures, c.code.ensures ∙ ap paged_code taken)

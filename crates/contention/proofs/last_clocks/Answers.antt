@@ -11,7 +11,7 @@ returns-then-port_is_contended c =
     (number_of _ _ _ _ c.contention.ensures c.clocks.ensures)
 
 pub returns-then-addr_is_contended : goal.returns-then-addr_is_contended
-returns-then-addr_is_contended c = last_held _ _ _ _ _ c.port_is_contended.ensures c.if-port_is_contended.false _ c.addr_is_contended.ensures c.if-addr_is_contended.true _ c.held_thrice.ensures
+returns-then-addr_is_contended c = last_held _ _ _ _ _ c.port_is_contended.ensures c.if-port_is_contended.false _ (rw c.from.ensures at c.addr_is_contended.ensures) c.if-addr_is_contended.true _ c.held_thrice.ensures
 
 pub returns : goal.returns
-returns c = last_plain _ _ _ _ _ c.port_is_contended.ensures c.if-port_is_contended.false _ c.addr_is_contended.ensures c.if-addr_is_contended.false
+returns c = last_plain _ _ _ _ _ c.port_is_contended.ensures c.if-port_is_contended.false _ (rw c.from.ensures at c.addr_is_contended.ensures) c.if-addr_is_contended.false

@@ -11,23 +11,23 @@ returns-then-to-from c =
 pub paint_ram-requires : goal.paint_ram-requires
 paint_ram-requires c =
     let g = c.args in
-    (search rules, shown_fits g.bus.machine g.bus.paging _ _ c.screen_bank.ensures c.requires.1, search rules)
+    (search rules, shown_fits g.bus.machine g.bus.paging _ _ (rw c.from.ensures at c.screen_bank.ensures) c.requires.1, search rules)
 
 pub paint_ram-requires-else-bus-eq0 : goal.paint_ram-requires-else-bus-eq0
 paint_ram-requires-else-bus-eq0 c =
     let g = c.args in
-    (search rules, shown_fits g.bus.machine g.bus.paging _ _ c.screen_bank.ensures c.requires.1, search rules)
+    (search rules, shown_fits g.bus.machine g.bus.paging _ _ (rw c.from.ensures at c.screen_bank.ensures) c.requires.1, search rules)
 
 pub returns-then-bus-eq0 : goal.returns-then-bus-eq0
 returns-then-bus-eq0 c =
     let g = c.args in (
       c.paint_ram.ensures.0,
-      caught_b g.bus g.position g.ram.now g.a.now g.b.now _ _ c.screen_bank.ensures c.if-bus-eq0.true c.paint_ram.ensures.1,
+      caught_b g.bus g.position g.ram.now g.a.now g.b.now _ _ (rw c.from.ensures at c.screen_bank.ensures) c.if-bus-eq0.true c.paint_ram.ensures.1,
     )
 
 pub returns-else-bus-eq0 : goal.returns-else-bus-eq0
 returns-else-bus-eq0 c =
     let g = c.args in (
       c.paint_ram-else-bus-eq0.ensures.0,
-      caught_a g.bus g.position g.ram.now g.a.now g.b.now _ _ c.screen_bank.ensures c.if-bus-eq0.false c.paint_ram-else-bus-eq0.ensures.1,
+      caught_a g.bus g.position g.ram.now g.a.now g.b.now _ _ (rw c.from.ensures at c.screen_bank.ensures) c.if-bus-eq0.false c.paint_ram-else-bus-eq0.ensures.1,
     )
