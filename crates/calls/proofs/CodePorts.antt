@@ -6,6 +6,7 @@ use mathlib.Core.Bool.{Bool, or-false}
 use mathlib.Core.List.{List, []}
 use native.Mathlib.Omega.{arith}
 use native.Mathlib.Nat.{add-zero}
+use Rattle.std.specs.Prelude.{Option}
 use Rattle.machine.specs.declared.ZXMachine.{ZXMachine}
 use Rattle.machine.specs.Numbers.{specs_of}
 use Rattle.machine.specs.Timing.{border_at}
@@ -14,14 +15,12 @@ use Rattle.memory.specs.declared.Paged.{Paged}
 use Rattle.memory.specs.declared.Paged.TheVariants as paging
 use Rattle.memory.specs.Paging.{write7ffd, paged_code, paging_after}
 use Rattle.ports.specs.declared.Devices.{Devices}
-use Rattle.ports.specs.declared.Answer.{Answer}
+use Rattle.ports.specs.declared.Fetched.{Fetched}
 use Rattle.ports.specs.declared.Written.{Written}
 use Rattle.ports.specs.declared.Written.TheVariants as written
 use Rattle.ports.specs.Order.{read_order}
 use Rattle.ports.specs.Hearers as hearer
 use Rattle.ports.specs.Hearers.{hearers, heard_code, hearers_of}
-use Rattle.ports.specs.declared.FloatingAddress.{FloatingAddress}
-use Rattle.ports.specs.declared.FloatingPlace.{FloatingPlace}
 use Rattle.ports.specs.Floating.{floating_place, floating_address}
 use Rattle.border.specs.declared.Beam.{Beam}
 use Rattle.border.specs.Edge.{Edge, edge_of, inked}
@@ -40,7 +39,7 @@ use Rattle.calls.proofs.CodeRuns.{follows, left_core}
 
 -- ---- the floating bus
 
-pub floating_is : (m : ZXMachine) (c : Core) (a : FloatingAddress) (p : FloatingPlace) (x : ℕ) → p ≡ floating_place (specs_of m) c.clock
+pub floating_is : (m : ZXMachine) (c : Core) (a : Option ℕ) (p : Option Fetched) (x : ℕ) → p ≡ floating_place (specs_of m) c.clock
     → a ≡ floating_address p → x ≡ floating_byte m a c → x ≡ floating_bus m c
 unfolding floating_bus
 floating_is m c a p x e f h = rw (← e, ← f) h
@@ -69,7 +68,7 @@ module _ (t : Turn) (port n k : ℕ) (is : n ≡ part_clocks t.machine t.world.c
   unfolding ran
   read_turn u e = parts_turn u e ∙ sym (read_step t r.in_frame r.in_place port)
 
-  pub read_taken : (d : Devices) (x : ℕ) (a : Answer) → a ≡ read_order d port
+  pub read_taken : (d : Devices) (x : ℕ) (a : Option ℕ) → a ≡ read_order d port
       → x ≡ answered t.machine a (at_clock (t.world.core.clock + n) t.world.core) → x ≡ read_value t.machine d port t.world.core
   read_taken d x a e f =
       f

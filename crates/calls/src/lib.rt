@@ -17,7 +17,7 @@ ghost use Rattle.calls.specs.Paged.{paged_write};
 use border::Beam;
 use machine::ZXMachine;
 use memory::Place;
-use ports::{Answer, Devices, FloatingAddress, Written};
+use ports::{Devices, Written};
 use record::Bus;
 use steps::Turning;
 
@@ -48,6 +48,7 @@ fn picture_byte(m: ZXMachine, paging: u8, ram: &[u8], addr: u16) -> u8
 }
 
 // What the floating bus holds at a clock.
+#[tactic(auto, unfolding(bus::specs::Calls::floating_bus))]
 pub fn floating_bus_value(bus: Bus, clock: u32, ram: &[u8]) -> u8
     requires { length ram.now ≡ (specs_of bus.machine).ram }
     ensures { result ≡ floating_bus bus.machine (at_clock clock (core_of bus ram.now)) }
@@ -56,20 +57,17 @@ pub fn floating_bus_value(bus: Bus, clock: u32, ram: &[u8]) -> u8
     let place = ports::floating_place(m, clock);
     let address = ports::floating_address(place);
     match address {
-        FloatingAddress::Idle => 0xFF,
-        FloatingAddress::At(addr) => picture_byte(m, bus.paging, ram, addr),
+        None => 0xFF,
+        Some(addr) => picture_byte(m, bus.paging, ram, addr),
     }
 }
 
 // The value of a read that is taken at a clock.
-fn read_value(answer: Answer, bus: Bus, clock: u32, ram: &[u8]) -> u8
+fn read_value(answer: Option<u8>, bus: Bus, clock: u32, ram: &[u8]) -> u8
     requires { length ram.now ≡ (specs_of bus.machine).ram }
     ensures { result ≡ answered bus.machine answer (at_clock clock (core_of bus ram.now)) }
 {
-    match answer {
-        Answer::Value(value) => value,
-        Answer::Floating => floating_bus_value(bus, clock, ram),
-    }
+    answer.unwrap_or_else(|| floating_bus_value(bus, clock, ram))
 }
 
 // A port read: its value is taken where both parts end, and all its steps are one.
