@@ -4,8 +4,10 @@
 #![tactic(auto)]
 
 ghost use Rattle.std.specs.Prelude.{◌≡◌, ◌/◌, leb};
-ghost use Rattle.machine.specs.Numbers.{specs_of, Regular};
+ghost use Rattle.machine.specs.Numbers.{specs_of, Regular, regular};
+ghost use Rattle.machine.specs.declared.ZXMachine.TheVariants.{Sinclair48K, Sinclair128K};
 ghost use Rattle.machine.specs.Timing.{entry, delay_at, clocks_held, blocks_capped, blocks_at, block_position, border_capped, border_at, border_position, frame_end, interrupt};
+ghost use Rattle.machine.specs.Paces.{Paced, come};
 ghost use Rattle.machine.specs.Contended.{port_contended, bank_contended};
 
 #[derive(Clone, Copy)]
@@ -48,6 +50,38 @@ const SPECS_128K: ZXSpecs = ZXSpecs {
     ram: 131072,
     rom: 32768,
 };
+
+// One machine's numbers, known where the code is compiled: what is written once over a machine is compiled once for each, and divides by
+// constants. `regular` is all that its sums ask of the numbers.
+pub trait Numbers {
+    ghost use Rattle.machine.specs.declared.ZXSpecs.{ZXSpecs};
+
+    const SPECS: ZXSpecs;
+
+    ghost SPECS: { ZXSpecs };
+
+    ghost regular: { Regular SPECS };
+}
+
+pub struct Numbers48K;
+
+pub struct Numbers128K;
+
+impl Numbers for Numbers48K {
+    const SPECS: ZXSpecs = SPECS_48K;
+
+    ghost SPECS = { specs_of Sinclair48K };
+
+    ghost regular = { regular Sinclair48K };
+}
+
+impl Numbers for Numbers128K {
+    const SPECS: ZXSpecs = SPECS_128K;
+
+    ghost SPECS = { specs_of Sinclair128K };
+
+    ghost regular = { regular Sinclair128K };
+}
 
 // Bytes of a picture, of the border, and of a page; clocks of the longest wait.
 pub const PICTURE_LENGTH: usize = 49152;
@@ -107,8 +141,8 @@ impl ZXMachine {
         ensures { result ≡ delay_at (specs_of self) clocks }
     {
         match self {
-            ZXMachine::Sinclair48K => delay_by(SPECS_48K, clocks),
-            ZXMachine::Sinclair128K => delay_by(SPECS_128K, clocks),
+            ZXMachine::Sinclair48K => delay_by::<Numbers48K>(clocks),
+            ZXMachine::Sinclair128K => delay_by::<Numbers128K>(clocks),
         }
     }
 
@@ -116,8 +150,8 @@ impl ZXMachine {
         ensures { result ≡ blocks_at (specs_of self) clocks }
     {
         match self {
-            ZXMachine::Sinclair48K => blocks_by(SPECS_48K, clocks),
-            ZXMachine::Sinclair128K => blocks_by(SPECS_128K, clocks),
+            ZXMachine::Sinclair48K => blocks_by::<Numbers48K>(clocks),
+            ZXMachine::Sinclair128K => blocks_by::<Numbers128K>(clocks),
         }
     }
 
@@ -125,8 +159,8 @@ impl ZXMachine {
         ensures { result ≡ border_at (specs_of self) clocks }
     {
         match self {
-            ZXMachine::Sinclair48K => border_by(SPECS_48K, clocks),
-            ZXMachine::Sinclair128K => border_by(SPECS_128K, clocks),
+            ZXMachine::Sinclair48K => border_by::<Numbers48K>(clocks),
+            ZXMachine::Sinclair128K => border_by::<Numbers128K>(clocks),
         }
     }
 
@@ -153,8 +187,8 @@ impl ZXMachine {
         ensures { result ≡ frame_end (specs_of self) clocks }
     {
         match self {
-            ZXMachine::Sinclair48K => end_reached_by(SPECS_48K, clocks),
-            ZXMachine::Sinclair128K => end_reached_by(SPECS_128K, clocks),
+            ZXMachine::Sinclair48K => end_reached_by::<Numbers48K>(clocks),
+            ZXMachine::Sinclair128K => end_reached_by::<Numbers128K>(clocks),
         }
     }
 
@@ -163,8 +197,8 @@ impl ZXMachine {
         ensures { result ≡ leb blocks (block_position (specs_of self) clocks) }
     {
         match self {
-            ZXMachine::Sinclair48K => block_reached_by(SPECS_48K, blocks, clocks),
-            ZXMachine::Sinclair128K => block_reached_by(SPECS_128K, blocks, clocks),
+            ZXMachine::Sinclair48K => reached_by::<Numbers48K, 32, 4, 6144>(SPECS_48K.block, blocks, clocks),
+            ZXMachine::Sinclair128K => reached_by::<Numbers128K, 32, 4, 6144>(SPECS_128K.block, blocks, clocks),
         }
     }
 
@@ -173,8 +207,8 @@ impl ZXMachine {
         ensures { result ≡ leb pairs (border_position (specs_of self) clocks / 2) }
     {
         match self {
-            ZXMachine::Sinclair48K => pair_reached_by(SPECS_48K, pairs, clocks),
-            ZXMachine::Sinclair128K => pair_reached_by(SPECS_128K, pairs, clocks),
+            ZXMachine::Sinclair48K => reached_by::<Numbers48K, 160, 1, 38400>(SPECS_48K.border, pairs, clocks),
+            ZXMachine::Sinclair128K => reached_by::<Numbers128K, 160, 1, 38400>(SPECS_128K.border, pairs, clocks),
         }
     }
 
@@ -194,12 +228,12 @@ impl ZXMachine {
     }
 }
 
-fn delay_by(s: ZXSpecs, clocks: u32) -> Delay
-    requires { Regular s }
-    ensures { result ≡ delay_at s clocks }
+#[tactic(auto, unfolding(crate::specs::Timing::delay_at, crate::specs::Timing::delay_in_line))]
+fn delay_by<M: Numbers>(clocks: u32) -> Delay
+    ensures { result ≡ delay_at M.SPECS clocks }
 {
-    let origin = s.contention;
-    let line = s.line;
+    let origin = M::SPECS.contention;
+    let line = M::SPECS.line;
     if clocks < origin {
         return Delay::Outside;
     }
@@ -228,12 +262,12 @@ fn held_by(x: u32) -> u32
     if place < 6 { 6 - place } else { 0 }
 }
 
-fn blocks_by(s: ZXSpecs, clocks: u32) -> BlocksCount
-    requires { Regular s }
-    ensures { result ≡ blocks_at s clocks }
+#[tactic(auto, unfolding(crate::specs::Timing::blocks_at, crate::specs::Timing::blocks_from))]
+fn blocks_by<M: Numbers>(clocks: u32) -> BlocksCount
+    ensures { result ≡ blocks_at M.SPECS clocks }
 {
-    let origin = s.block;
-    let line = s.line;
+    let origin = M::SPECS.block;
+    let line = M::SPECS.line;
     if clocks < origin {
         return BlocksCount {
             lines: 0,
@@ -251,12 +285,12 @@ fn blocks_by(s: ZXSpecs, clocks: u32) -> BlocksCount
     }
 }
 
-fn border_by(s: ZXSpecs, clocks: u32) -> BorderPlace
-    requires { Regular s }
-    ensures { result ≡ border_at s clocks }
+#[tactic(auto, unfolding(crate::specs::Timing::border_at, crate::specs::Timing::border_from))]
+fn border_by<M: Numbers>(clocks: u32) -> BorderPlace
+    ensures { result ≡ border_at M.SPECS clocks }
 {
-    let origin = s.border;
-    let line = s.line;
+    let origin = M::SPECS.border;
+    let line = M::SPECS.line;
     if clocks < origin {
         return BorderPlace::At { line: 0, pixel: 0 };
     }
@@ -271,48 +305,35 @@ fn border_by(s: ZXSpecs, clocks: u32) -> BorderPlace
     }
 }
 
-// Block n, counted from 1, is in line (n - 1) / 32, and there comes four clocks after the one before it.
-fn block_reached_by(s: ZXSpecs, blocks: u32, clocks: u32) -> bool
-    requires { Regular s }
-    ensures { result ≡ leb blocks (block_position s clocks) }
+// Whether so many of TOTAL moments have come, PER_LINE of them in a line and EACH clocks apart, the first at the origin. Moment n, counted
+// from 1, is in line (n - 1) / PER_LINE.
+#[tactic(auto, using(crate::proofs::Reached::moment_reached, crate::proofs::Reached::moments_few, crate::proofs::Reached::due_fits))]
+fn reached_by<M: Numbers, const PER_LINE: u32, const EACH: u32, const TOTAL: u32>(
+    origin: u32,
+    count: u32,
+    clocks: u32,
+) -> bool
+    requires { Paced PER_LINE EACH TOTAL M.SPECS.line origin }
+    ensures { result ≡ leb count (come PER_LINE EACH TOTAL M.SPECS.line origin clocks) }
 {
-    let origin = s.block;
-    let line = s.line;
-    if blocks == 0 {
+    let line = M::SPECS.line;
+    if count == 0 {
         return true;
     }
-    if 6144 < blocks {
+    if TOTAL < count {
         return false;
     }
-    let last = blocks - 1;
-    let due = origin + last / 32 * line + last % 32 * 4;
+    let last = count - 1;
+    let due = origin + last / PER_LINE * line + last % PER_LINE * EACH;
     due <= clocks
 }
 
-// Pixel pair n, counted from 1, is in line (n - 1) / 160, and there comes a clock after the one before it.
-fn pair_reached_by(s: ZXSpecs, pairs: u32, clocks: u32) -> bool
-    requires { Regular s }
-    ensures { result ≡ leb pairs (border_position s clocks / 2) }
+#[tactic(auto, using(crate::proofs::Rising::end_is))]
+fn end_reached_by<M: Numbers>(clocks: u32) -> bool
+    ensures { result ≡ frame_end M.SPECS clocks }
 {
-    let origin = s.border;
-    let line = s.line;
-    if pairs == 0 {
-        return true;
-    }
-    if 38400 < pairs {
-        return false;
-    }
-    let last = pairs - 1;
-    let due = origin + last / 160 * line + last % 160;
-    due <= clocks
-}
-
-fn end_reached_by(s: ZXSpecs, clocks: u32) -> bool
-    requires { Regular s }
-    ensures { result ≡ frame_end s clocks }
-{
-    let origin = s.border;
-    let line = s.line;
+    let origin = M::SPECS.border;
+    let line = M::SPECS.line;
     let end = origin + 239 * line + 160;
     end <= clocks
 }
