@@ -1,6 +1,6 @@
 // What it is: the timing of the two machines, after rustzx's machine/mod.rs and specs.rs: delay, block and border position, interrupt, contended pages and ports, memory sizes.
 // What it promises: at every 32-bit clock each function gives exactly what document 01's "Numbers of the two machines" says; none asks anything of its caller.
-// Where its definitions stand: specs/Numbers.antt (the table of numbers), specs/Limits.antt (lengths and limits that are no machine's own), specs/Timing.antt (the readings of a clock), specs/Contended.antt (pages and ports), specs/Why.antt (what the delay's answer says).
+// Where its definitions stand: specs/Numbers.antt (the table of numbers), specs/Limits.antt (lengths and limits that are no machine's own), specs/Timing.antt (the readings of a clock), specs/Paces.antt (moments that come line by line), specs/Contended.antt (pages and ports), specs/Why.antt (what the delay's answer says).
 #![tactic(auto)]
 
 ghost use Rattle.std.specs.Prelude.{◌≡◌, ◌/◌, leb};
@@ -51,8 +51,8 @@ const SPECS_128K: ZXSpecs = ZXSpecs {
     rom: 32768,
 };
 
-// One machine's numbers, known where the code is compiled: what is written once over a machine is compiled once for each, and divides by
-// constants. `regular` is all that its sums ask of the numbers.
+// One machine's numbers as a type, so that a function over them is compiled once a machine, and divides by a constant. `regular` is all
+// that its sums ask of the numbers.
 pub trait Numbers {
     ghost use Rattle.machine.specs.declared.ZXSpecs.{ZXSpecs};
 
@@ -94,6 +94,7 @@ pub const LONGEST_WAIT: u32 = 65535;
 
 // The delay at a clock, and why. In the picture: its line, document 01's x, and the clocks for which the Z80 is held, which may
 // be none. Outside the picture, which x of 128 or more is too, nothing is fetched and nothing held.
+// Kept: 02's Q-6 says "The answer is an enum of `machine`"; None would not say why.
 #[derive(Clone, Copy)]
 pub enum Delay {
     Held { line: u32, x: u32, clocks: u32 },
@@ -136,7 +137,7 @@ impl ZXMachine {
         }
     }
 
-    // The delay at a clock of the frame, and why. Each arm names its numbers, so that the compiler divides by a constant.
+    // The delay at a clock of the frame, and why. Here and below each arm is compiled with its machine's numbers, and divides by a constant.
     pub fn contention(self, clocks: u32) -> Delay
         ensures { result ≡ delay_at (specs_of self) clocks }
     {
@@ -165,6 +166,7 @@ impl ZXMachine {
     }
 
     // The block position as one number.
+    #[tactic(auto, using(crate::proofs::Bounds::position_small))]
     pub fn block_position(self, clocks: u32) -> u32
         ensures { result ≡ block_position (specs_of self) clocks }
     {
@@ -173,6 +175,7 @@ impl ZXMachine {
     }
 
     // The border position as one number, 76,800 at frame end.
+    #[tactic(auto, using(crate::proofs::Bounds::at_within))]
     pub fn border_position(self, clocks: u32) -> u32
         ensures { result ≡ border_position (specs_of self) clocks }
     {
@@ -193,22 +196,40 @@ impl ZXMachine {
     }
 
     // Whether so many blocks have come: the clock of the last of them is asked for, which takes no division by the line.
+    #[tactic(auto, using(crate::proofs::Reached::blocks_come, crate::specs::Numbers::regular))]
     pub fn has_reached_block(self, blocks: u32, clocks: u32) -> bool
         ensures { result ≡ leb blocks (block_position (specs_of self) clocks) }
     {
         match self {
-            ZXMachine::Sinclair48K => reached_by::<Numbers48K, 32, 4, 6144>(SPECS_48K.block, blocks, clocks),
-            ZXMachine::Sinclair128K => reached_by::<Numbers128K, 32, 4, 6144>(SPECS_128K.block, blocks, clocks),
+            ZXMachine::Sinclair48K => reached_by::<Numbers48K, 32, 4, 6144>(
+                SPECS_48K.block,
+                blocks,
+                clocks,
+            ),
+            ZXMachine::Sinclair128K => reached_by::<Numbers128K, 32, 4, 6144>(
+                SPECS_128K.block,
+                blocks,
+                clocks,
+            ),
         }
     }
 
     // The same of the border's pixel pairs.
+    #[tactic(auto, using(crate::proofs::Reached::pairs_come, crate::specs::Numbers::regular))]
     pub fn has_reached_pair(self, pairs: u32, clocks: u32) -> bool
         ensures { result ≡ leb pairs (border_position (specs_of self) clocks / 2) }
     {
         match self {
-            ZXMachine::Sinclair48K => reached_by::<Numbers48K, 160, 1, 38400>(SPECS_48K.border, pairs, clocks),
-            ZXMachine::Sinclair128K => reached_by::<Numbers128K, 160, 1, 38400>(SPECS_128K.border, pairs, clocks),
+            ZXMachine::Sinclair48K => reached_by::<Numbers48K, 160, 1, 38400>(
+                SPECS_48K.border,
+                pairs,
+                clocks,
+            ),
+            ZXMachine::Sinclair128K => reached_by::<Numbers128K, 160, 1, 38400>(
+                SPECS_128K.border,
+                pairs,
+                clocks,
+            ),
         }
     }
 
@@ -262,7 +283,7 @@ fn held_by(x: u32) -> u32
     if place < 6 { 6 - place } else { 0 }
 }
 
-#[tactic(auto, unfolding(crate::specs::Timing::blocks_at, crate::specs::Timing::blocks_from))]
+#[tactic(auto, unfolding(crate::specs::Timing::blocks_at, crate::specs::Timing::blocks_from, crate::specs::Timing::blocks_capped))]
 fn blocks_by<M: Numbers>(clocks: u32) -> BlocksCount
     ensures { result ≡ blocks_at M.SPECS clocks }
 {
@@ -277,15 +298,25 @@ fn blocks_by<M: Numbers>(clocks: u32) -> BlocksCount
     let c = clocks - origin;
     let row = c / line;
     let column = c % line / 4 + 1;
-    if 32 < column {
-        let next = row + 1;
-        blocks_in(next, 0)
+    let (row, column) = if 32 < column {
+        (row + 1, 0)
     } else {
-        blocks_in(row, column)
+        (row, column)
+    };
+    if 192 <= row {
+        BlocksCount {
+            lines: 192,
+            columns: 0,
+        }
+    } else {
+        BlocksCount {
+            lines: row,
+            columns: column,
+        }
     }
 }
 
-#[tactic(auto, unfolding(crate::specs::Timing::border_at, crate::specs::Timing::border_from))]
+#[tactic(auto, unfolding(crate::specs::Timing::border_at, crate::specs::Timing::border_from, crate::specs::Timing::border_capped))]
 fn border_by<M: Numbers>(clocks: u32) -> BorderPlace
     ensures { result ≡ border_at M.SPECS clocks }
 {
@@ -297,17 +328,21 @@ fn border_by<M: Numbers>(clocks: u32) -> BorderPlace
     let c = clocks - origin;
     let row = c / line;
     let pixel = 2 * (c % line + 1);
-    if 320 < pixel {
-        let next = row + 1;
-        border_in(next, 0)
+    let (row, pixel) = if 320 < pixel {
+        (row + 1, 0)
     } else {
-        border_in(row, pixel)
+        (row, pixel)
+    };
+    if 240 <= row {
+        BorderPlace::FrameEnd
+    } else {
+        BorderPlace::At { line: row, pixel }
     }
 }
 
 // Whether so many of TOTAL moments have come, PER_LINE of them in a line and EACH clocks apart, the first at the origin. Moment n, counted
 // from 1, is in line (n - 1) / PER_LINE.
-#[tactic(auto, using(crate::proofs::Reached::moment_reached, crate::proofs::Reached::moments_few, crate::proofs::Reached::due_fits))]
+#[tactic(auto, using(crate::proofs::Reached::moment_reached, crate::proofs::Reached::moments_few))]
 fn reached_by<M: Numbers, const PER_LINE: u32, const EACH: u32, const TOTAL: u32>(
     origin: u32,
     count: u32,
@@ -336,34 +371,6 @@ fn end_reached_by<M: Numbers>(clocks: u32) -> bool
     let line = M::SPECS.line;
     let end = origin + 239 * line + 160;
     end <= clocks
-}
-
-// Line 192 or later is the end.
-fn blocks_in(line: u32, column: u32) -> BlocksCount
-    ensures { result ≡ blocks_capped line column }
-{
-    if 192 <= line {
-        BlocksCount {
-            lines: 192,
-            columns: 0,
-        }
-    } else {
-        BlocksCount {
-            lines: line,
-            columns: column,
-        }
-    }
-}
-
-// Line 240 or later is frame end.
-fn border_in(line: u32, pixel: u32) -> BorderPlace
-    ensures { result ≡ border_capped line pixel }
-{
-    if 240 <= line {
-        BorderPlace::FrameEnd
-    } else {
-        BorderPlace::At { line, pixel }
-    }
 }
 
 // The interrupt is on in the first clocks of a frame.

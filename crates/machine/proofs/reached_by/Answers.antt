@@ -5,4 +5,5 @@ use Rattle.machine.proofs.reached_by.Goals as goal
 
 pub overflow_add-due-2 : goal.overflow_add-due-2
 overflow_add-due-2 g c =
-    omega (arith, due_fits g.row.PER_LINE g.row.EACH g.row.TOTAL c.SPECS-line.result.line c.args.origin (search rules) c.args.count (omega arith) (omega arith))
+    let n = g.row in
+    omega (arith, due_fits n.PER_LINE n.EACH n.TOTAL c.SPECS-line.result.line c.args.origin (search rules) c.args.count (omega arith) (omega arith))
