@@ -130,6 +130,10 @@ ready_less t s c k all r l m =
       blocks_fit = omega (arith, r.blocks_fit);
     }
 
+-- one step of a port call takes at most what is asked for the whole of it
+pub ready_call : (t : Turn) (n : ℕ) → Ready t 2 28 → n ≤ 28 → Ready t 1 n
+ready_call t n r few = ready_less t 1 n 2 28 r (omega arith) few
+
 -- a border write, at any clock, and a 7FFD write that is taken ask nothing
 pub ready_inked : (t : Turn) (s c clock k : ℕ) → Ready t s c → Ready (inked_at_clock clock k t) s c
 ready_inked t s c clock k r =
