@@ -5,7 +5,7 @@
 
 ghost use Rattle.std.specs.Prelude.{◌≤◌, length, IfOk};
 
-use beam::{Question, Reported};
+use beam::{NoRoom, Question};
 use std::io;
 use std::io::Read;
 
@@ -16,8 +16,8 @@ pub fn answer(rt: &impl Print, input: &mut impl Read, question: Question) -> io:
     let mut out = [0u8; 524299];
     let n = read_full(input, &mut bytes)?;
     match beam::report(question, &bytes[..n], &mut out) {
-        Reported::Done(k) => rt.write_all(&out[..k]),
-        Reported::NoRoom => unreachable!(),
+        Ok(k) => rt.write_all(&out[..k]),
+        Err(NoRoom) => unreachable!(),
     }
 }
 
