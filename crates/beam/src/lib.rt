@@ -8,7 +8,7 @@ ghost use Rattle.machine.specs.Numbers.{specs_of};
 ghost use Rattle.machine.specs.Timing.{delay_at, first_column};
 ghost use Rattle.beam.specs.Decimal.{decimal};
 ghost use Rattle.beam.specs.Meaning.{model, clock_meaning, line_meaning, lines_of};
-ghost use Rattle.beam.specs.Printed.{fields, spaced, held_line, answer_to, line_report};
+ghost use Rattle.beam.specs.Printed.{spaced, held_line, answer_to, line_report};
 ghost use Rattle.beam.specs.Whole.{lines_report, reported, reported_into};
 ghost use Rattle.beam.specs.Inner.{Put};
 
@@ -40,6 +40,43 @@ impl Question {
 pub struct Asked {
     pub machine: ZXMachine,
     pub clock: u32,
+}
+
+impl Asked {
+    ghost use Rattle.beam.specs.Meaning.{model};
+    ghost use Rattle.beam.specs.Printed.{fields};
+
+    // The machine's number.
+    fn model(self) -> u32
+        ensures { result ≡ model self.machine }
+    {
+        match self.machine {
+            ZXMachine::Sinclair48K => 48,
+            ZXMachine::Sinclair128K => 128,
+        }
+    }
+
+    fn fields(self) -> [u32; 8]
+        ensures { result ≡ fields self.machine self.clock }
+    {
+        let Asked { machine, clock } = self;
+        let held = machine.contention(clock).clocks();
+        let blocks = machine.blocks_count(clock);
+        let on = u32::from(machine::int_active(clock));
+        match machine.next_border_pixel(clock) {
+            BorderPlace::At { line, pixel } => [
+                clock,
+                held,
+                blocks.lines,
+                blocks.columns,
+                line,
+                pixel,
+                0,
+                on,
+            ],
+            BorderPlace::FrameEnd => [clock, held, blocks.lines, blocks.columns, 0, 0, 1, on],
+        }
+    }
 }
 
 // The lent slice has less room than the report asks for.
@@ -136,26 +173,18 @@ fn put_answer(question: Question, asked: Asked, out: &mut [u8], at: usize) -> us
     requires { at + length (decimal (model asked.machine) ++ answer_to question asked.machine asked.clock) ≤ length out.old }
     ensures { Put out.old at (decimal (model asked.machine) ++ answer_to question asked.machine asked.clock) result out.new }
 {
-    let Asked { machine, clock } = asked;
-    let next = put_decimal(model_of(machine), out, at);
+    let next = put_decimal(asked.model(), out, at);
     match question {
-        Question::Beam => put_beam(machine, clock, out, next),
-        Question::Held => put_held(machine, clock, out, next),
+        Question::Beam => put_spaced(&asked.fields(), out, next),
+        Question::Held => put_held(asked, out, next),
     }
 }
 
-fn put_beam(machine: ZXMachine, clock: u32, out: &mut [u8], at: usize) -> usize
-    requires { at + length (spaced (fields machine clock)) ≤ length out.old }
-    ensures { Put out.old at (spaced (fields machine clock)) result out.new }
+fn put_held(asked: Asked, out: &mut [u8], at: usize) -> usize
+    requires { at + length (held_line asked.clock (delay_at (specs_of asked.machine) asked.clock)) ≤ length out.old }
+    ensures { Put out.old at (held_line asked.clock (delay_at (specs_of asked.machine) asked.clock)) result out.new }
 {
-    let numbers = fields_of(machine, clock);
-    put_spaced(&numbers, out, at)
-}
-
-fn put_held(machine: ZXMachine, clock: u32, out: &mut [u8], at: usize) -> usize
-    requires { at + length (held_line clock (delay_at (specs_of machine) clock)) ≤ length out.old }
-    ensures { Put out.old at (held_line clock (delay_at (specs_of machine) clock)) result out.new }
-{
+    let Asked { machine, clock } = asked;
     match machine.contention(clock) {
         Delay::Held { line, x, clocks } => {
             let numbers = held_fields(clock, line, x, clocks);
@@ -183,37 +212,6 @@ fn put_bad(number: u32, out: &mut [u8], at: usize) -> usize
     let last = put_decimal(number, out, next);
     out[last] = b'\n';
     last + 1
-}
-
-fn model_of(m: ZXMachine) -> u32
-    ensures { result ≡ model m }
-{
-    match m {
-        ZXMachine::Sinclair48K => 48,
-        ZXMachine::Sinclair128K => 128,
-    }
-}
-
-fn fields_of(m: ZXMachine, clock: u32) -> [u32; 8]
-    ensures { result ≡ fields m clock }
-{
-    let delay = m.contention(clock);
-    let held = delay.clocks();
-    let blocks = m.blocks_count(clock);
-    let on = u32::from(machine::int_active(clock));
-    match m.next_border_pixel(clock) {
-        BorderPlace::At { line, pixel } => [
-            clock,
-            held,
-            blocks.lines,
-            blocks.columns,
-            line,
-            pixel,
-            0,
-            on,
-        ],
-        BorderPlace::FrameEnd => [clock, held, blocks.lines, blocks.columns, 0, 0, 1, on],
-    }
 }
 
 // Numbers, each behind a space, and a newline.

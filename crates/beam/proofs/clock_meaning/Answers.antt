@@ -28,17 +28,14 @@ returns-then-not-is_ascii_digit c =
       | then-not-is_ascii_digit-via-else-not-is_ascii_digit+then-frame-clock w ↦ large _ _ _ _ c.loop-digit.invariant _ (search rules) w.if-frame-clock.true
     ]
 
-no_zero : (c : goal.After-from) → 1 < length c.args.text.now → get_or c.args.text.now 0 0 ≡ 48 → ⊥
-no_zero c h =
-    elim c.else-text-gt1.branch [
-      | else-text-gt1-via-then-text-gt1+else-text-eq48 w ↦ w.if-text-eq48.false
-      | else-text-gt1-via-else-text-gt1 w ↦ absurd (omega arith)
-    ]
-
 pub loop-digit-preserved : goal.loop-digit-preserved
 loop-digit-preserved c =
     let d = c.if-not-is_ascii_digit.ensures.cases in
-    rw c.from.ensures (next _ _ _ c.loop-digit.invariant (no_zero c) (search rules) d.0 d.1)
+    let no_zero = λ (h : 1 < length c.args.text.now). elim c.else-text-gt1.branch as (λ x. get_or c.args.text.now 0 0 ≡ 48 → ⊥) [
+      | else-text-gt1-via-then-text-gt1+else-text-eq48 w ↦ w.if-text-eq48.false
+      | else-text-gt1-via-else-text-gt1 w ↦ absurd (omega arith)
+    ] in
+    rw c.from.ensures (next _ _ _ c.loop-digit.invariant no_zero (search rules) d.0 d.1)
 
 pub returns-then-clock-frame : goal.returns-then-clock-frame
 returns-then-clock-frame c = ended _ _ _ _ c.loop-digit.invariant c.specs-frame.result.frame (search rules) (search rules) (grind (arith, nat_tests)) (search rules)
