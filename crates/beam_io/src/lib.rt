@@ -22,6 +22,7 @@ pub fn answer(rt: &impl Print, input: &mut impl Read, question: Question) -> io:
 }
 
 // Reads until buf is full or the input ends, and answers how many bytes it put at the start of buf.
+// Kept: std's `read_exact` does not say how many bytes came where the input ends, and its `read_to_end` takes heap.
 fn read_full(input: &mut impl Read, buf: &mut [u8]) -> io::Result<usize>
     ensures { IfOk result (λ n. n ≤ length buf.new) }
 {
