@@ -12,7 +12,7 @@ ghost use Rattle.beam.specs.Printed.{flag, fields, spaced, held_line, answer_to,
 ghost use Rattle.beam.specs.Whole.{title, lines_report, reported, reported_into};
 ghost use Rattle.beam.specs.Inner.{line_length, Put};
 
-use machine::{BorderPlace, Delay, ZXMachine};
+use machine::{BorderPixel, Delay, ZXMachine};
 
 // What is asked of each clock: where the beam is (program `beamat`), or whether the Z80 is held there and why (program `heldat`).
 #[derive(Clone, Copy)]
@@ -257,7 +257,7 @@ fn fields_of(m: ZXMachine, clock: u32) -> [u32; 8]
     let blocks = m.blocks_count(clock);
     let on = flag_of(machine::int_active(clock));
     match m.next_border_pixel(clock) {
-        BorderPlace::At { line, pixel } => [
+        Some(BorderPixel { line, pixel }) => [
             clock,
             held,
             blocks.lines,
@@ -267,7 +267,7 @@ fn fields_of(m: ZXMachine, clock: u32) -> [u32; 8]
             0,
             on,
         ],
-        BorderPlace::FrameEnd => [clock, held, blocks.lines, blocks.columns, 0, 0, 1, on],
+        None => [clock, held, blocks.lines, blocks.columns, 0, 0, 1, on],
     }
 }
 
