@@ -4,6 +4,7 @@
 #![tactic(auto)]
 
 ghost use Rattle.std.specs.Prelude.{◌≤◌};
+ghost use Rattle.replay.specs.declared.TheConstants.{ROM, RAM};
 
 use judgement::{NUMBER_LENGTH, TIMED_LENGTH};
 use machine::{BORDER_LENGTH, PAGE_LENGTH, PICTURE_LENGTH, ZXMachine};
@@ -45,8 +46,9 @@ struct Board {
     a: [u8; PICTURE_LENGTH],
     b: [u8; PICTURE_LENGTH],
     border: [u8; BORDER_LENGTH],
-    // A page to be loaded, or a still picture.
-    spare: [u8; PICTURE_LENGTH],
+    // A page to be loaded, and a still picture.
+    page: [u8; PAGE_LENGTH],
+    still: [u8; PICTURE_LENGTH],
 }
 
 impl Board {
@@ -56,13 +58,19 @@ impl Board {
     }
 
     fn start(&mut self, call: Call, parts: Parts) -> Result<Line, Refused> {
-        script::no_devices(&mut self.devices, call.x);
+        let state = &mut self.state;
+        let devices = &mut self.devices;
+        let ram = &mut self.ram[..];
+        let a = &mut self.a;
+        let b = &mut self.b;
+        let border = &mut self.border;
+        script::no_devices(devices, call.x);
         script::accepted(ulb_start::ulb_start_colour(
-            &mut self.state,
-            &mut self.ram[..parts.ram],
-            &mut self.a,
-            &mut self.b,
-            &mut self.border,
+            state,
+            &mut ram[..parts.ram],
+            a,
+            b,
+            border,
             call.z,
             u32::from(call.y),
         ))?;
@@ -120,49 +128,51 @@ impl Board {
     }
 
     fn load_page(&mut self, call: Call, parts: Parts) -> Result<Line, Refused> {
-        let page = &mut self.spare[..PAGE_LENGTH];
+        let state = &self.state;
+        let ram = &mut self.ram[..];
+        let page = &mut self.page;
         script::fill(page, call.z);
-        let ram = &mut self.ram[..parts.ram];
-        script::accepted(ulb_memory::ulb_load_page(&self.state, ram, page, u32::from(call.x)))?;
+        let number = u32::from(call.x);
+        script::accepted(ulb_memory::ulb_load_page(state, &mut ram[..parts.ram], page, number))?;
         Ok(Line::Done)
     }
 
+    fn write_internal(&mut self, call: Call, parts: Parts) -> Result<Line, Refused> {
+        let state = &self.state;
+        let ram = &mut self.ram[..];
+        let ram = &mut ram[..parts.ram];
+        script::accepted(ulb_write_internal::ulb_write_internal(state, ram, call.y, call.x))?;
+        Ok(Line::Done)
+    }
+
+    fn reset_frames(&mut self) -> Result<Line, Refused> {
+        script::accepted(ulb_state::ulb_reset_frame_counter(&mut self.state))?;
+        Ok(Line::Done)
+    }
+
+    fn fill_rom(&mut self, call: Call, parts: Parts) -> Line {
+        let rom = &mut self.rom[..];
+        script::fill(&mut rom[..parts.rom], call.z);
+        Line::Done
+    }
+
     fn change(&mut self, which: Change, call: Call, parts: Parts) -> Option<Result<Line, Refused>> {
-        let done = match which {
+        Some(match which {
             Change::Device => Ok(script::set_device(call, &mut self.devices)?),
-            Change::WriteInternal => {
-                let ram = &mut self.ram[..parts.ram];
-                script::accepted(ulb_write_internal::ulb_write_internal(
-                    &self.state,
-                    ram,
-                    call.y,
-                    call.x,
-                )).map(|()| Line::Done)
-            }
+            Change::WriteInternal => self.write_internal(call, parts),
             Change::Write7ffd => self.write_7ffd(call),
-            Change::ResetFrames => {
-                script::accepted(ulb_state::ulb_reset_frame_counter(&mut self.state)).map(
-                    |()| Line::Done,
-                )
-            }
+            Change::ResetFrames => self.reset_frames(),
             Change::LoadPage => self.load_page(call, parts),
-            Change::FillRom => {
-                script::fill(&mut self.rom[..parts.rom], call.z);
-                Ok(Line::Done)
-            }
-        };
-        Some(done)
+            Change::FillRom => Ok(self.fill_rom(call, parts)),
+        })
     }
 
     fn still_picture(&mut self, call: Call, parts: Parts) -> Result<Line, Refused> {
-        let ram = &self.ram[..parts.ram];
-        script::accepted(ulb_pictures::ulb_still_picture(
-            &self.state,
-            ram,
-            &mut self.spare,
-            call.z,
-        ))?;
-        Ok(Line::Number(script::digest(&self.spare)))
+        let state = &self.state;
+        let ram = &self.ram;
+        let still = &mut self.still;
+        script::accepted(ulb_pictures::ulb_still_picture(state, &ram[..parts.ram], still, call.z))?;
+        Ok(Line::Number(script::digest(still)))
     }
 
     fn digests(&self, parts: Parts) -> Line {
@@ -244,7 +254,8 @@ fn main(rt: HostRuntime) -> io::Result<()> {
         a: [0; PICTURE_LENGTH],
         b: [0; PICTURE_LENGTH],
         border: [0; BORDER_LENGTH],
-        spare: [0; PICTURE_LENGTH],
+        page: [0; PAGE_LENGTH],
+        still: [0; PICTURE_LENGTH],
     };
     let mut input = rt.stdin();
     // A proved loop has to end, and nothing says that the input does: so its turns are counted, more than the stored script has.
