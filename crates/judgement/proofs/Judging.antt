@@ -5,9 +5,10 @@ use mathlib.Core.Path.{◌≡◌, refl, sym, ap, ◌∙◌}
 use mathlib.Core.Bool.{Bool, true, false}
 use mathlib.Core.List.{List, [], ◌∷◌}
 use native.Mathlib.Omega.{arith}
+use Rattle.std.specs.Prelude.{Result, Ok, Err}
 use Rattle.record.specs.declared.Bus.{Bus}
-use Rattle.record.specs.declared.Held.{Held}
-use Rattle.record.specs.declared.Held.TheVariants as held
+use Rattle.record.specs.declared.BadRecord.{BadRecord}
+use Rattle.record.specs.declared.BadRecord.TheVariants as bad
 use Rattle.record.specs.Record.{held_by}
 use Rattle.judgement.specs.declared.Refusal.{Refusal}
 use Rattle.judgement.specs.declared.Verdict.{Verdict}
@@ -32,17 +33,17 @@ pub none_left : (bus : Bus) → Accepted bus ≡ judged [] bus
 unfolding judged
 none_left bus = refl
 
-refused_held : (h : Held) (causes : Bus → List Cause) (e : Refusal) → judged_held h (λ bus. []) ≡ Refused e → Refused e ≡ judged_held h causes
+refused_held : (h : Result Bus BadRecord) (causes : Bus → List Cause) (e : Refusal) → judged_held h (λ bus. []) ≡ Refused e → Refused e ≡ judged_held h causes
 unfolding judged
-refused_held held.WrongLength causes e p = sym p
-refused_held held.Unsound causes e p = sym p
-refused_held (held.Sound bus) causes e p = never e bus (sym p)
+refused_held (Err bad.WrongLength) causes e p = sym p
+refused_held (Err bad.Unsound) causes e p = sym p
+refused_held (Ok bus) causes e p = never e bus (sym p)
 
-accepted_held : (h : Held) (causes : Bus → List Cause) (bus : Bus) → judged_held h (λ bus. []) ≡ Accepted bus → judged (causes bus) bus ≡ judged_held h causes
+accepted_held : (h : Result Bus BadRecord) (causes : Bus → List Cause) (bus : Bus) → judged_held h (λ bus. []) ≡ Accepted bus → judged (causes bus) bus ≡ judged_held h causes
 unfolding judged
-accepted_held held.WrongLength causes bus p = never _ bus p
-accepted_held held.Unsound causes bus p = never _ bus p
-accepted_held (held.Sound b) causes bus p = let e : bus ≡ b = cc in ap (λ (x : Bus). judged (causes x) x) e
+accepted_held (Err bad.WrongLength) causes bus p = never _ bus p
+accepted_held (Err bad.Unsound) causes bus p = never _ bus p
+accepted_held (Ok b) causes bus p = let e : bus ≡ b = cc in ap (λ (x : Bus). judged (causes x) x) e
 
 module _ (state : List ℕ) (causes : Bus → List Cause) (v : Verdict) (first : v ≡ judge_state state) where
   pub refused_before : (e : Refusal) → v ≡ Refused e → Refused e ≡ judge state causes

@@ -7,8 +7,9 @@ use mathlib.Core.Bool.{Bool, true, false, cond, not}
 use mathlib.Core.List.{List, [], ◌∷◌, ◌++◌}
 use lib.Dec.{eqb}
 use lib.ListN.{length}
+use Rattle.std.specs.Prelude.{Ok, Err}
 use Rattle.record.specs.declared.Bus.{Bus}
-use Rattle.record.specs.declared.Held.TheVariants as held
+use Rattle.record.specs.declared.BadRecord.TheVariants as bad
 use Rattle.record.specs.Record.{record_length, record_of, sound_bytes, held_by, machine_of, start_record}
 use Rattle.snapshot.specs.Kept.{snapshot_record}
 use Rattle.judgement.specs.declared.Refusal.{Refusal}
@@ -79,8 +80,8 @@ none_accepts_lem (c ∷ cs) bus n = rw n.0 (none_accepts_lem cs bus n.1)
 
 -- ---- a whole judgement
 held_in_order : (l t : Bool) (bus : Bus) (causes : Bus → List Cause)
-    → judged_held (cond l (cond t (held.Sound bus) held.Unsound) held.WrongLength) causes
-    ≡ cond (not l) (judged_held held.WrongLength causes) (cond (not t) (judged_held held.Unsound causes) (judged (causes bus) bus))
+    → judged_held (cond l (cond t (Ok bus) (Err bad.Unsound)) (Err bad.WrongLength)) causes
+    ≡ cond (not l) (judged_held (Err bad.WrongLength) causes) (cond (not t) (judged_held (Err bad.Unsound) causes) (judged (causes bus) bus))
 held_in_order true true bus causes = refl
 held_in_order true false bus causes = refl
 held_in_order false t bus causes = refl

@@ -1,9 +1,9 @@
 -- Document 01, "Eight refusals", and refusals 9, 10 and 11 of document 02 (Q-2, Q-4): their numbers, and their order.
 -- Assumes nothing.
-use Rattle.std.specs.Prelude.{ℕ, Bool, cond, List, [], ◌∷◌}
+use Rattle.std.specs.Prelude.{ℕ, Bool, cond, List, [], ◌∷◌, Result, Ok, Err}
 use Rattle.record.specs.declared.Bus.{Bus}
-use Rattle.record.specs.declared.Held.{Held}
-use Rattle.record.specs.declared.Held.TheVariants as held
+use Rattle.record.specs.declared.BadRecord.{BadRecord}
+use Rattle.record.specs.declared.BadRecord.TheVariants as bad
 use Rattle.record.specs.Record.{held_by}
 use Rattle.judgement.specs.declared.Refusal.{Refusal}
 use Rattle.judgement.specs.declared.Refusal.TheVariants.{BadMachine, BadLength, Unsound, BadFlag, LongWait, FramesFull, BadPage, BadNumber, NoVideoPage, WrongSize, UnequalCopies}
@@ -45,10 +45,10 @@ in_turn c =
     ∷ cause NoVideoPage c.video ∷ cause BadNumber c.number ∷ cause WrongSize c.size ∷ []
 
 -- "Order: 1, record length, 3, other lengths, 4, 5, 6, 7, 8.": the record is judged before what depends on it
-abbrev pub judged_held : Held → (Bus → List Cause) → Verdict
-judged_held held.WrongLength causes = Refused BadLength
-judged_held held.Unsound causes = Refused Unsound
-judged_held (held.Sound bus) causes = judged (causes bus) bus
+abbrev pub judged_held : Result Bus BadRecord → (Bus → List Cause) → Verdict
+judged_held (Err bad.WrongLength) causes = Refused BadLength
+judged_held (Err bad.Unsound) causes = Refused Unsound
+judged_held (Ok bus) causes = judged (causes bus) bus
 
 abbrev pub judge : List ℕ → (Bus → List Cause) → Verdict
 judge state causes = judged_held (held_by state) causes

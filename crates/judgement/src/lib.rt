@@ -10,7 +10,7 @@ ghost use Rattle.judgement.specs.Judges.{number_fits, ram_fits, rom_fits, lent_f
 ghost use Rattle.judgement.specs.Answers.{timed_length, timed_answer, number_length, number_answer, refused_answer};
 
 use machine::ZXMachine;
-use record::{Bus, Held};
+use record::{BadRecord, Bus};
 
 // Bytes of a timed call's answer, and of another call's with a number to give.
 pub const TIMED_LENGTH: usize = 10;
@@ -119,11 +119,10 @@ fn first_cause(bus: Bus, causes: Causes) -> Verdict
 pub fn judge_state(state: &[u8]) -> Verdict
     ensures { result ≡ judge_state state.now }
 {
-    let held = record::look(state);
-    match held {
-        Held::WrongLength => Verdict::Refused(Refusal::BadLength),
-        Held::Unsound => Verdict::Refused(Refusal::Unsound),
-        Held::Sound(bus) => Verdict::Accepted(bus),
+    match record::look(state) {
+        Err(BadRecord::WrongLength) => Verdict::Refused(Refusal::BadLength),
+        Err(BadRecord::Unsound) => Verdict::Refused(Refusal::Unsound),
+        Ok(bus) => Verdict::Accepted(bus),
     }
 }
 

@@ -4,14 +4,14 @@ use Rattle.judgement.specs.Refusals.{judged}
 use Rattle.judgement.specs.Judges.{judge_state}
 use Rattle.judgement.proofs.judge_state.Goals as goal
 
-pub returns-in-WrongLength : goal.returns-in-WrongLength
+pub returns-in-Err-WrongLength : goal.returns-in-Err-WrongLength
 unfolding judge_state judged
-returns-in-WrongLength c = rw (← c.look-held.ensures, c.in-WrongLength.is)
+returns-in-Err-WrongLength c = rw (← c.look.ensures, c.in-Err-WrongLength.is, c.in-Err-WrongLength.field-0-is)
 
-pub returns-in-Unsound : goal.returns-in-Unsound
+pub returns-in-Err-Unsound : goal.returns-in-Err-Unsound
 unfolding judge_state judged
-returns-in-Unsound c = rw (← c.look-held.ensures, c.in-Unsound.is)
+returns-in-Err-Unsound c = rw (← c.look.ensures, c.in-Err-Unsound.is, c.in-Err-Unsound.field-0-is)
 
-pub returns-in-Sound : goal.returns-in-Sound
+pub returns-in-Ok : goal.returns-in-Ok
 unfolding judge_state judged
-returns-in-Sound c = rw (← c.look-held.ensures, c.in-Sound.is)
+returns-in-Ok c = rw (← c.look.ensures, c.in-Ok.is)
