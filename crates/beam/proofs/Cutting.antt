@@ -1,4 +1,4 @@
--- How a text is walked: the test of its opening, the end of a line, and that its lines are the first one and those behind it.
+-- How a text is walked: what the kit cuts off it is its first line, and its lines are that one and those behind it.
 -- Assumes nothing.
 use Prim.Native.Nat.{ℕ, zero, suc, ◌+◌, ◌-◌, ◌<◌, ◌≤◌, min}
 use mathlib.Core.Path.{◌≡◌, refl, ap, sym, ◌∙◌}
@@ -18,7 +18,11 @@ use Rattle.std.proofs.Common.{inl, inr}
 use Rattle.std.proofs.lemmas.List.{take-append-le}
 use Rattle.laws.proofs.Cases.{by_eq, split}
 use Rattle.beam.specs.Meaning.{lines_of, in_front}
-use Rattle.beam.specs.Inner.{line_length}
+
+-- how many bytes stand before a text's first newline
+unfoldable pub line_length : List ℕ → ℕ
+line_length [] = 0
+line_length (b ∷ bs) = cond (eqb b 10) 0 (suc (line_length bs))
 
 none_left : (l : List ℕ) → length l ≡ 0 → l ≡ []
 none_left [] e = refl
