@@ -16,7 +16,7 @@ ghost use Rattle.calls.specs.Paged.{paged_write};
 
 use machine::ZXMachine;
 use memory::Place;
-use ports::{Answer, Devices, FloatingAddress, Written};
+use ports::{Devices, Written};
 use record::Bus;
 use steps::Turning;
 
@@ -28,6 +28,7 @@ pub struct Answered {
 }
 
 // The byte at an address of the picture, which is never in ROM, so that none is lent.
+#[tactic(auto, using(memory::proofs::Places::ram_within))]
 fn picture_byte(m: ZXMachine, paging: u8, ram: &[u8], addr: u16) -> u8
     requires { length ram.now ≡ (specs_of m).ram }
     ensures { result ≡ peeked m paging [] ram.now addr }
@@ -39,29 +40,28 @@ fn picture_byte(m: ZXMachine, paging: u8, ram: &[u8], addr: u16) -> u8
 }
 
 // What the floating bus holds at a clock.
+#[tactic(auto, unfolding(bus::specs::Calls::floating_bus))]
 pub fn floating_bus_value(bus: Bus, clock: u32, ram: &[u8]) -> u8
     requires { length ram.now ≡ (specs_of bus.machine).ram }
     ensures { result ≡ floating_bus bus.machine (at_clock clock (core_of bus ram.now)) }
 {
     let place = ports::floating_place(bus.machine, clock);
     match ports::floating_address(place) {
-        FloatingAddress::Idle => 0xFF,
-        FloatingAddress::At(addr) => picture_byte(bus.machine, bus.paging, ram, addr),
+        None => 0xFF,
+        Some(addr) => picture_byte(bus.machine, bus.paging, ram, addr),
     }
 }
 
 // The value of a read that is taken at a clock.
-fn read_value(answer: Answer, bus: Bus, clock: u32, ram: &[u8]) -> u8
+fn read_value(answer: Option<u8>, bus: Bus, clock: u32, ram: &[u8]) -> u8
     requires { length ram.now ≡ (specs_of bus.machine).ram }
     ensures { result ≡ answered bus.machine answer (at_clock clock (core_of bus ram.now)) }
 {
-    match answer {
-        Answer::Value(value) => value,
-        Answer::Floating => floating_bus_value(bus, clock, ram),
-    }
+    answer.unwrap_or_else(|| floating_bus_value(bus, clock, ram))
 }
 
 // A port read: its value is taken where both parts end, and all its steps are one.
+#[tactic(auto, using(bus::proofs::PortSteps::first_small, bus::proofs::PortSteps::last_small, contention::proofs::CodeReady::frame_small, contention::proofs::CodeReady::ready_call))]
 pub fn read_io(
     t: Turning,
     devices: Devices,
@@ -113,6 +113,7 @@ pub fn write_7ffd(t: Turning, value: u8) -> Answered
 }
 
 // A write that does nothing to the bus: all its steps are one.
+#[tactic(auto, using(bus::proofs::PortSteps::first_small, bus::proofs::PortSteps::last_small, contention::proofs::CodeReady::frame_small, contention::proofs::CodeReady::ready_call))]
 fn write_quietly(
     t: Turning,
     port: u16,
@@ -132,6 +133,7 @@ fn write_quietly(
 }
 
 // A border write: it acts at the clock that the first part ends at, and all its steps are one.
+#[tactic(auto, using(bus::proofs::PortSteps::first_small, bus::proofs::PortSteps::last_small, contention::proofs::CodeReady::frame_small, contention::proofs::CodeReady::ready_call))]
 fn write_border(
     t: Turning,
     port: u16,
@@ -156,6 +158,7 @@ fn write_border(
 }
 
 // A paging write: one step before it acts, so that what came before it is painted from the page that was shown, and one after.
+#[tactic(auto, using(bus::proofs::PortSteps::first_small, bus::proofs::PortSteps::last_small, contention::proofs::CodeReady::frame_small, contention::proofs::CodeReady::ready_call))]
 fn write_paging(
     t: Turning,
     port: u16,

@@ -1,6 +1,6 @@
 -- What a call asks before its first step is enough for all of them: each step takes its clocks from what is asked.
 -- Assumes nothing.
-use Prim.Native.Nat.{ℕ, ◌+◌, ◌-◌, ◌*◌, ◌<◌, ◌≤◌}
+use Prim.Native.Nat.{ℕ, ◌+◌, ◌-◌, ◌*◌, ◌^◌, ◌<◌, ◌≤◌}
 use mathlib.Core.Path.{◌≡◌, refl, sym, ◌∙◌, subst}
 use mathlib.Core.Bool.{Bool, true, false}
 use mathlib.Core.List.{List}
@@ -15,6 +15,7 @@ use Rattle.machine.specs.declared.BorderPlace.TheVariants.{At, FrameEnd}
 use Rattle.machine.specs.Numbers.{specs_of}
 use Rattle.machine.specs.Timing.{border_at}
 use Rattle.machine.proofs.Bounds.{position_small}
+use Rattle.machine.proofs.Numbered.{regular}
 use Rattle.memory.specs.declared.Paged.{Paged}
 use Rattle.memory.specs.declared.Paged.TheVariants as paging
 use Rattle.memory.specs.Memory.{ram_page}
@@ -108,6 +109,10 @@ module _ (t : Turn) (s c k all n : ℕ) (r : Ready t k all) (one : s + 1 ≤ k) 
       (λ h. rw (tick_over t n h) (ready_over h))
       (λ h. rw (tick_on t n h) (ready_on h))
 
+-- a frame is short
+pub frame_small : (m : ZXMachine) → (specs_of m).frame < 2 ^ 17
+frame_small m = (regular m).short
+
 -- less may be asked
 pub ready_less : (t : Turn) (s c k all : ℕ) → Ready t k all → s ≤ k → c ≤ all → Ready t s c
 ready_less t s c k all r l m =
@@ -124,6 +129,10 @@ ready_less t s c k all r l m =
       clocks_fit = omega (arith, r.clocks_fit);
       blocks_fit = omega (arith, r.blocks_fit);
     }
+
+-- one step of a port call takes at most what is asked for the whole of it
+pub ready_call : (t : Turn) (n : ℕ) → Ready t 2 28 → n ≤ 28 → Ready t 1 n
+ready_call t n r few = ready_less t 1 n 2 28 r (omega arith) few
 
 -- a border write, at any clock, and a 7FFD write that is taken ask nothing
 pub ready_inked : (t : Turn) (s c clock k : ℕ) → Ready t s c → Ready (inked_at_clock clock k t) s c
