@@ -243,8 +243,8 @@ fn put_decimal(n: u32, out: &mut [u8], at: usize) -> usize
 }
 
 // A text as it stands.
-// Kept: the slice and the place in it are no struct with these writers as methods: behind `&mut self` a callee may put another slice
-// in its place, so that no caller could say what its own holds; and by value an `ensures` names no field as it was and as it is.
+// Kept: a struct of the slice and the place in it, with these writers as methods, was tried and gets no proof: behind `&mut self` a
+// callee may put another slice in its place, so that no caller can say what its own holds; and by value an `ensures` names no field.
 fn put(text: &[u8], out: &mut [u8], at: usize) -> usize
     requires { at + length text.now ≤ length out.old }
     ensures { Put out.old at text.now result out.new }
