@@ -13,7 +13,7 @@ ghost use Rattle.beam.specs.Whole.{lines_report, reported, reported_into};
 ghost use Rattle.beam.specs.Inner.{Put};
 
 use itoa::Buffer;
-use machine::{BorderPlace, Delay, ZXMachine};
+use machine::{BorderPixel, Delay, ZXMachine};
 
 // What is asked of each clock: where the beam is (program `beamat`), or whether the Z80 is held there and why (program `heldat`).
 #[derive(Clone, Copy)]
@@ -64,7 +64,7 @@ impl Asked {
         let blocks = machine.blocks_count(clock);
         let on = u32::from(machine::int_active(clock));
         match machine.next_border_pixel(clock) {
-            BorderPlace::At { line, pixel } => [
+            Some(BorderPixel { line, pixel }) => [
                 clock,
                 held,
                 blocks.lines,
@@ -74,7 +74,7 @@ impl Asked {
                 0,
                 on,
             ],
-            BorderPlace::FrameEnd => [clock, held, blocks.lines, blocks.columns, 0, 0, 1, on],
+            None => [clock, held, blocks.lines, blocks.columns, 0, 0, 1, on],
         }
     }
 }

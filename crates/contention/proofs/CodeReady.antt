@@ -11,8 +11,8 @@ use Rattle.record.specs.Record.{last_frame}
 use Rattle.laws.proofs.Cases.{split, by_bool}
 use Rattle.machine.specs.declared.ZXMachine.{ZXMachine}
 use Rattle.machine.specs.declared.ZXMachine.TheVariants.{Sinclair48K, Sinclair128K}
-use Rattle.machine.specs.declared.BorderPlace.{BorderPlace}
-use Rattle.machine.specs.declared.BorderPlace.TheVariants.{At, FrameEnd}
+use Rattle.machine.specs.declared.BorderPixel.{BorderPixel}
+use Rattle.std.specs.Prelude.{Option, Some, None}
 use Rattle.machine.specs.Numbers.{specs_of}
 use Rattle.machine.specs.Timing.{border_at}
 use Rattle.machine.proofs.Bounds.{position_small}
@@ -53,12 +53,12 @@ unfolding finished
 finished_long e =
     by_bool (λ (p : List ℕ). length p ≡ length e.pixels) e.blocked (λ _. refl) (λ _. length_filled (2 * e.pairs) 76800 e.colour e.pixels)
 
-inked_at_long : (place : BorderPlace) (k : ℕ) (e : Edge) → length (inked_at place k e).pixels ≡ length e.pixels
+inked_at_long : (place : Option BorderPixel) (k : ℕ) (e : Edge) → length (inked_at place k e).pixels ≡ length e.pixels
 unfolding inked_at
-inked_at_long (At line pixel) k e = length_filled (2 * e.pairs) (320 * line + pixel) e.colour e.pixels
-inked_at_long FrameEnd k e = length_filled (2 * e.pairs) 76800 e.colour e.pixels
+inked_at_long (Some p) k e = length_filled (2 * e.pairs) (320 * p.line + p.pixel) e.colour e.pixels
+inked_at_long None k e = length_filled (2 * e.pairs) 76800 e.colour e.pixels
 
-inked_long : (place : BorderPlace) (k : ℕ) (e : Edge) → length (inked place k e).pixels ≡ length e.pixels
+inked_long : (place : Option BorderPixel) (k : ℕ) (e : Edge) → length (inked place k e).pixels ≡ length e.pixels
 unfolding inked
 inked_long place k e = by_bool (λ (x : Edge). length x.pixels ≡ length e.pixels) e.blocked (λ _. refl) (λ _. inked_at_long place k e)
 

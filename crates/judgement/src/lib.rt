@@ -206,22 +206,21 @@ pub fn judge_port(
     match v {
         Verdict::Refused(e) => Verdict::Refused(e),
         Verdict::Accepted(bus) => {
-            if devices.len() == ports::DEVICES_LENGTH {
-                let fit = lent_fit(bus, ram, a, b, border) & (answer == TIMED_LENGTH);
-                let flags = ports::flags(devices);
-                let full = frames_full(bus);
-                first_cause(
-                    bus,
-                    Causes {
-                        length: !fit,
-                        flag: !flags,
-                        frames: full,
-                        ..NONE
-                    },
-                )
-            } else {
-                Verdict::Refused(Refusal::BadLength)
-            }
+            let Ok(devices) = devices.try_into() else {
+                return Verdict::Refused(Refusal::BadLength);
+            };
+            let fit = lent_fit(bus, ram, a, b, border) & (answer == TIMED_LENGTH);
+            let flags = ports::flags(devices);
+            let full = frames_full(bus);
+            first_cause(
+                bus,
+                Causes {
+                    length: !fit,
+                    flag: !flags,
+                    frames: full,
+                    ..NONE
+                },
+            )
         }
     }
 }

@@ -38,7 +38,7 @@ pub extern "C" fn ulb_read_io(
         Verdict::Refused(e) => judgement::refuse(answer, judgement::TIMED_LENGTH, e),
         Verdict::Accepted(held) => {
             let begun = steps::begun(held);
-            let devices = ports::devices_from(devices);
+            let devices = ports::devices_from(devices.try_into().unwrap());
             let read = calls::read_io(begun, devices, port, ram, a, b, border);
             let turn = read.turn;
             timed::finish_step(turn, read.value, state, answer)

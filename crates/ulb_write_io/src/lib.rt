@@ -39,7 +39,7 @@ pub extern "C" fn ulb_write_io(
         Verdict::Refused(cause) => judgement::refuse(answer, judgement::TIMED_LENGTH, cause),
         Verdict::Accepted(held) => {
             let begun = steps::begun(held);
-            let devices = ports::devices_from(devices);
+            let devices = ports::devices_from(devices.try_into().unwrap());
             let written = calls::write_io(begun, devices, port, value, ram, a, b, border);
             let turn = written.turn;
             timed::finish(turn, written.value, state, answer)

@@ -11,13 +11,14 @@ pub returns-in-Refused : goal.returns-in-Refused
 unfolding judge_port
 returns-in-Refused c = search (refused_before, rules)
 
-pub returns-then-devices-eq-DEVICES_LENGTH : goal.returns-then-devices-eq-DEVICES_LENGTH
+pub returns-in-Ok : goal.returns-in-Ok
 unfolding judge_port judged
-returns-then-devices-eq-DEVICES_LENGTH c =
+returns-in-Ok c =
+    let chunk = c.in-Ok.ensures.1 in
     accepted_then _ _ _ c.judge_state-v.ensures _ _ c.in-Accepted.is
-    (rw (c.first_cause.ensures, c.frames_full-full.ensures, c.lent_fit.ensures, c.flags-flags.ensures, eq-eqb _ _ c.if-devices-eq-DEVICES_LENGTH.true))
+    (rw (c.first_cause.ensures, c.frames_full-full.ensures, c.lent_fit.ensures, c.flags-flags.ensures, chunk.same, eq-eqb _ 35 chunk.long))
 
-pub returns-else-devices-eq-DEVICES_LENGTH : goal.returns-else-devices-eq-DEVICES_LENGTH
+pub returns-in_default : goal.returns-in_default
 unfolding judge_port judged
-returns-else-devices-eq-DEVICES_LENGTH c =
-    accepted_then _ _ _ c.judge_state-v.ensures _ _ c.in-Accepted.is (rw (ne_eqb _ _ c.if-devices-eq-DEVICES_LENGTH.false))
+returns-in_default c =
+    accepted_then _ _ _ c.judge_state-v.ensures _ _ c.in-Accepted.is (rw (ne_eqb _ 35 (c.in_default.ensures.1)))
