@@ -22,16 +22,14 @@ use Rattle.machine.proofs.Why.{by_why}
 use Rattle.machine.proofs.Bounds.{delay_small, blocks_small, Within, border_within}
 use Rattle.beam.specs.declared.Question.{Question}
 use Rattle.beam.specs.declared.Question.TheVariants.{Beam, Held}
-use Rattle.std.specs.Prelude.{Option, Some, None}
 use Rattle.beam.specs.declared.Asked.{Asked}
 use Rattle.beam.specs.Decimal.{decimal}
 use Rattle.beam.specs.Meaning.{asked, model, line_text, line_meaning, lines_of}
 use Rattle.beam.specs.Printed.{border_line, border_pixel, flag, fields, spaced, outside, held_line, answer_to, line_report}
 use Rattle.beam.specs.Whole.{title, lines_report, report_of, room}
-use Rattle.beam.specs.Inner.{line_length}
 use Rattle.beam.proofs.Spelling.{length_below, length_from, length_some}
 use Rattle.beam.proofs.Means.{means_in}
-use Rattle.beam.proofs.Cutting.{line_in, lines_first}
+use Rattle.beam.proofs.Cutting.{line_length, line_in, lines_first}
 
 -- a clock has at most five digits, a machine two or three
 frame_digits : (m : ZXMachine) → (specs_of m).frame ≤ 10 ^ 5
