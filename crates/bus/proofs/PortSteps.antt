@@ -14,7 +14,8 @@ use Rattle.laws.proofs.Cases.{by_bool, split}
 use Rattle.machine.specs.declared.ZXMachine.{ZXMachine}
 use Rattle.machine.specs.declared.ZXMachine.TheVariants.{Sinclair48K, Sinclair128K}
 use Rattle.machine.specs.declared.ZXSpecs.{ZXSpecs}
-use Rattle.machine.specs.declared.BorderPlace.TheVariants.{At, FrameEnd}
+use Rattle.std.specs.Prelude.{None}
+use Rattle.machine.specs.Timing.{pixel_at}
 use Rattle.machine.specs.Numbers.{specs_of, Regular}
 use Rattle.machine.specs.Timing.{delay_at, delay, block_position}
 use Rattle.machine.specs.Contended.{port_contended}
@@ -272,7 +273,7 @@ module _ (t : Turn) (inside : t.world.core.clock < (specs_of t.machine).frame)
 
 -- The tail of a frame and the head of the next are alike to a border write: closing the border and then writing before its first pixel
 -- leaves what writing at frame end and then closing leaves.
-ink_over : (k : ℕ) (e : Edge) (b : Bool) → e.blocked ≡ b → inked (At 0 0) k (finished e) ≡ finished (inked FrameEnd k e)
+ink_over : (k : ℕ) (e : Edge) (b : Bool) → e.blocked ≡ b → inked (pixel_at 0 0) k (finished e) ≡ finished (inked None k e)
 unfolding inked inked_at finished filled
 ink_over k e true h = rw h
 ink_over k e false h = rw h

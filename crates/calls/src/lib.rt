@@ -14,8 +14,7 @@ ghost use Rattle.bus.specs.Clocks.{first_clocks, part_clocks, inked_at_clock, at
 ghost use Rattle.steps.specs.Turned.{turn_of, core_of, Ready};
 ghost use Rattle.calls.specs.Paged.{paged_write};
 
-use machine::ZXMachine;
-use memory::Place;
+use memory::{Map, Place};
 use ports::{Devices, Written};
 use record::Bus;
 use steps::Turning;
@@ -29,11 +28,11 @@ pub struct Answered {
 
 // The byte at an address of the picture, which is never in ROM, so that none is lent.
 #[tactic(auto, using(memory::proofs::Places::ram_within))]
-fn picture_byte(m: ZXMachine, paging: u8, ram: &[u8], addr: u16) -> u8
-    requires { length ram.now ≡ (specs_of m).ram }
-    ensures { result ≡ peeked m paging [] ram.now addr }
+fn picture_byte(map: Map, ram: &[u8], addr: u16) -> u8
+    requires { length ram.now ≡ (specs_of map.machine).ram }
+    ensures { result ≡ peeked map.machine map.paging [] ram.now addr }
 {
-    match memory::place_of(m, paging, addr) {
+    match map.place_of(addr) {
         Place::Rom(_) => 0,
         Place::Ram(at) => ram[at],
     }
@@ -48,7 +47,7 @@ pub fn floating_bus_value(bus: Bus, clock: u32, ram: &[u8]) -> u8
     let place = ports::floating_place(bus.machine, clock);
     match ports::floating_address(place) {
         None => 0xFF,
-        Some(addr) => picture_byte(bus.machine, bus.paging, ram, addr),
+        Some(addr) => picture_byte(Map::from(bus), ram, addr),
     }
 }
 
@@ -103,12 +102,12 @@ pub fn write_7ffd(t: Turning, value: u8) -> Answered
         × (result.value ≡ paged_code (write7ffd t.bus.machine t.bus.paging value)) }
 {
     let bus = t.bus;
-    let taken = memory::write_7ffd(bus.machine, bus.paging, value);
-    let paging = memory::paging_after(taken, bus.paging);
+    let taken = Map::from(bus).write_7ffd(value);
+    let paging = taken.paging_after(bus.paging);
     let bus = Bus { paging, ..bus };
     Answered {
         turn: Turning { bus, ..t },
-        value: memory::paged_code(taken),
+        value: taken.code(),
     }
 }
 

@@ -11,6 +11,7 @@ ghost use Rattle.bus.specs.Clocks.{due_at, first_clocks, held_thrice, last_clock
 ghost use Rattle.steps.specs.Turned.{turn_of, Ready};
 
 use machine::ZXMachine;
+use memory::Map;
 use record::Bus;
 use steps::Turning;
 
@@ -18,9 +19,8 @@ use steps::Turning;
 fn delay_at(bus: Bus, addr: u16) -> u32
     ensures { result ≡ due_at bus.machine bus.paging addr bus.clock }
 {
-    let m = bus.machine;
-    if memory::addr_is_contended(m, bus.paging, addr) {
-        m.contention(bus.clock).clocks()
+    if Map::from(bus).addr_is_contended(addr) {
+        bus.machine.contention(bus.clock).clocks()
     } else {
         0
     }
@@ -74,7 +74,7 @@ pub fn last_clocks(bus: Bus, clock: u32, port: u16) -> u32
     let m = bus.machine;
     if m.port_is_contended(port) {
         m.contention(clock).clocks() + 2
-    } else if memory::addr_is_contended(m, bus.paging, port) {
+    } else if Map::from(bus).addr_is_contended(port) {
         held_thrice(m, clock)
     } else {
         2

@@ -15,6 +15,7 @@ ghost use Rattle.bus.specs.Calls.{plain_wait};
 ghost use Rattle.steps.specs.Turned.{turn_of, screen_of, edge_in, beam_in, beamed, look_to, next_frame, Ready};
 
 use border::Beam;
+use memory::Map;
 use record::Bus;
 
 // The state of the bus during a call, and what the call has to report so far.
@@ -74,7 +75,7 @@ fn catch_up(bus: Bus, position: u32, ram: &[u8], a: &mut [u8], b: &mut [u8]) -> 
     if to <= from {
         return 0;
     }
-    let start = 16384 * memory::screen_bank(bus.machine, bus.paging) as usize;
+    let start = 16384 * Map::from(bus).screen_bank() as usize;
     let flash = (1 <= bus.phase) & (bus.phase <= 16);
     if bus.phase % 2 == 0 {
         paint::paint_ram(ram, start, b, from, to, flash) as u32

@@ -7,7 +7,7 @@ ghost use Rattle.std.specs.Prelude.{◌≡◌};
 ghost use Rattle.contracts.specs.Plain.{told, changed, read_internal, load_page, ram_page_told, block_told, ram_page_part, block_part};
 
 use judgement::Verdict;
-use memory::Page;
+use memory::{Map, Page};
 
 // Byte read.
 #[unsafe(no_mangle)]
@@ -24,8 +24,7 @@ pub extern "C" fn ulb_read_internal(
     match v {
         Verdict::Refused(e) => judgement::refuse(answer, judgement::NUMBER_LENGTH, e),
         Verdict::Accepted(bus) => {
-            let m = bus.machine;
-            let value = memory::read(m, bus.paging, rom, ram, addr);
+            let value = Map::from(bus).read(rom, ram, addr);
             judgement::fill_number(answer, value as u32);
             0
         }
@@ -78,9 +77,8 @@ pub extern "C" fn ulb_block(
     match v {
         Verdict::Refused(e) => judgement::refuse(answer, judgement::NUMBER_LENGTH, e),
         Verdict::Accepted(bus) => {
-            let m = bus.machine;
-            let page = memory::get_bank_type(m, bus.paging, block);
-            let start = memory::part_start(m, page);
+            let page = Map::from(bus).get_bank_type(block);
+            let start = memory::part_start(bus.machine, page);
             judgement::fill_number(answer, start);
             0
         }
@@ -106,8 +104,7 @@ pub fn block<'a>(state: &[u8], rom: &'a [u8], ram: &'a [u8], block: u32) -> &'a 
     match v {
         Verdict::Refused(_) => &rom[..0],
         Verdict::Accepted(bus) => {
-            let m = bus.machine;
-            let page = memory::get_bank_type(m, bus.paging, block);
+            let page = Map::from(bus).get_bank_type(block);
             memory::page_data(page, rom, ram)
         }
     }

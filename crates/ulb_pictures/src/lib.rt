@@ -9,6 +9,7 @@ ghost use Rattle.contracts.specs.Plain.{told, changed, shown_told, still_picture
 ghost use Rattle.machine.specs.Limits.{picture_length};
 
 use judgement::Verdict;
+use memory::Map;
 
 #[unsafe(no_mangle)]
 pub extern "C" fn ulb_shown_picture(state: &[u8], a: &[u8], b: &[u8], answer: &mut [u8]) -> u8
@@ -56,8 +57,7 @@ pub extern "C" fn ulb_still_picture(state: &[u8], ram: &[u8], picture: &mut [u8]
     match v {
         Verdict::Refused(e) => judgement::number(e),
         Verdict::Accepted(bus) => {
-            let m = bus.machine;
-            let shown = memory::screen_bank(m, bus.paging);
+            let shown = Map::from(bus).screen_bank();
             let page = memory::ram_page_data(ram, shown as u32);
             paint::still(page, picture, flash == 1);
             0

@@ -7,6 +7,7 @@ ghost use Rattle.std.specs.Prelude.{◌≡◌};
 ghost use Rattle.contracts.specs.Plain.{changed, write_internal};
 
 use judgement::Verdict;
+use memory::Map;
 
 // Byte write.
 #[unsafe(no_mangle)]
@@ -17,8 +18,7 @@ pub extern "C" fn ulb_write_internal(state: &[u8], ram: &mut [u8], addr: u16, va
     match v {
         Verdict::Refused(e) => judgement::number(e),
         Verdict::Accepted(bus) => {
-            let m = bus.machine;
-            memory::write(m, bus.paging, ram, addr, value);
+            Map::from(bus).write(ram, addr, value);
             0
         }
     }

@@ -5,7 +5,8 @@ use Rattle.calls.proofs.write_7ffd.Goals as goal
 
 pub returns : goal.returns
 returns c =
+    let taken = rw c.from.ensures at c.write_7ffd-taken.ensures in
     let g = c.args in (
-      λ ram a b border. rw (← c.write_7ffd-taken.ensures, c.paging_after-paging.ensures) (repaged_by g.t _ ram a b border),
-      c.paged_code.ensures ∙ ap paged_code c.write_7ffd-taken.ensures,
+      λ ram a b border. rw (← taken, c.paging_after-paging.ensures) (repaged_by g.t _ ram a b border),
+      c.code.ensures ∙ ap paged_code taken,
     )

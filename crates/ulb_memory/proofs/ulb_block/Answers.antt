@@ -19,4 +19,4 @@ pub returns-in-Accepted : goal.returns-in-Accepted
 unfolding block_told
 returns-in-Accepted c =
     told_accepted _ _ c.judge_block-v.ensures _ _ _ _ _ c.in-Accepted.is c.fill_number.ensures
-    (rw (c.part_start-start.ensures, c.get_bank_type-page.ensures))
+    (rw (c.part_start-start.ensures, c.get_bank_type-page.ensures, c.from.ensures))

@@ -7,7 +7,7 @@ use Rattle.judgement.proofs.Accepted.{ready_write}
 use Rattle.ulb_write_internal.proofs.ulb_write_internal.Goals as goal
 
 pub write-requires : goal.write-requires
-write-requires c = (ready_write _ _ _ (sym c.judge_write-v.ensures ∙ c.in-Accepted.is)).ram_is
+write-requires c = rw c.from.ensures (ready_write _ _ _ (sym c.judge_write-v.ensures ∙ c.in-Accepted.is)).ram_is
 
 pub returns-in-Refused : goal.returns-in-Refused
 unfolding write_internal
@@ -18,4 +18,4 @@ pub returns-in-Accepted : goal.returns-in-Accepted
 unfolding write_internal
 returns-in-Accepted c =
     changed_accepted _ _ c.judge_write-v.ensures _ _ _ _ c.in-Accepted.is
-    c.write.ensures
+    (rw c.from.ensures at c.write.ensures)
