@@ -33,13 +33,6 @@ pub enum Refusal {
     UnequalCopies,
 }
 
-// What is said of a call: refused, or accepted with the sound record that it was lent.
-#[derive(Clone, Copy)]
-pub enum Verdict {
-    Refused(Refusal),
-    Accepted(Bus),
-}
-
 // A refusal's number.
 pub fn number(e: Refusal) -> u8
     ensures { result ≡ refusal_number e }
@@ -85,45 +78,44 @@ const NONE: Causes = Causes {
 };
 
 // The first cause that holds refuses.
-fn first_cause(bus: Bus, causes: Causes) -> Verdict
+fn first_cause(bus: Bus, causes: Causes) -> Result<Bus, Refusal>
     ensures { result ≡ judged (in_turn causes) bus }
 {
     if causes.length {
-        return Verdict::Refused(Refusal::BadLength);
+        return Err(Refusal::BadLength);
     }
     if causes.flag {
-        return Verdict::Refused(Refusal::BadFlag);
+        return Err(Refusal::BadFlag);
     }
     if causes.wait {
-        return Verdict::Refused(Refusal::LongWait);
+        return Err(Refusal::LongWait);
     }
     if causes.frames {
-        return Verdict::Refused(Refusal::FramesFull);
+        return Err(Refusal::FramesFull);
     }
     if causes.page {
-        return Verdict::Refused(Refusal::BadPage);
+        return Err(Refusal::BadPage);
     }
     if causes.video {
-        return Verdict::Refused(Refusal::NoVideoPage);
+        return Err(Refusal::NoVideoPage);
     }
     if causes.number {
-        return Verdict::Refused(Refusal::BadNumber);
+        return Err(Refusal::BadNumber);
     }
     if causes.size {
-        return Verdict::Refused(Refusal::WrongSize);
+        return Err(Refusal::WrongSize);
     }
-    Verdict::Accepted(bus)
+    Ok(bus)
 }
 
 // The record is judged before what depends on it: its length, then its soundness.
-pub fn judge_state(state: &[u8]) -> Verdict
+pub fn judge_state(state: &[u8]) -> Result<Bus, Refusal>
     ensures { result ≡ judge_state state.now }
 {
-    let held = record::look(state);
-    match held {
-        Held::WrongLength => Verdict::Refused(Refusal::BadLength),
-        Held::Unsound => Verdict::Refused(Refusal::Unsound),
-        Held::Sound(bus) => Verdict::Accepted(bus),
+    match record::look(state) {
+        Held::WrongLength => Err(Refusal::BadLength),
+        Held::Unsound => Err(Refusal::Unsound),
+        Held::Sound(bus) => Ok(bus),
     }
 }
 
@@ -169,26 +161,21 @@ pub fn judge_wait(
     border: usize,
     clocks: u32,
     answer: usize,
-) -> Verdict
+) -> Result<Bus, Refusal>
     ensures { result ≡ judge_wait state.now ram a b border clocks answer }
 {
-    let v = judge_state(state);
-    match v {
-        Verdict::Refused(e) => Verdict::Refused(e),
-        Verdict::Accepted(bus) => {
-            let fit = lent_fit(bus, ram, a, b, border) & (answer == TIMED_LENGTH);
-            let full = frames_full(bus);
-            first_cause(
-                bus,
-                Causes {
-                    length: !fit,
-                    wait: machine::LONGEST_WAIT < clocks,
-                    frames: full,
-                    ..NONE
-                },
-            )
-        }
-    }
+    let bus = judge_state(state)?;
+    let fit = lent_fit(bus, ram, a, b, border) & (answer == TIMED_LENGTH);
+    let full = frames_full(bus);
+    first_cause(
+        bus,
+        Causes {
+            length: !fit,
+            wait: machine::LONGEST_WAIT < clocks,
+            frames: full,
+            ..NONE
+        },
+    )
 }
 
 // The flags are looked at only where the device record has its length.
@@ -200,88 +187,68 @@ pub fn judge_port(
     b: usize,
     border: usize,
     answer: usize,
-) -> Verdict
+) -> Result<Bus, Refusal>
     ensures { result ≡ judge_port state.now devices.now ram a b border answer }
 {
-    let v = judge_state(state);
-    match v {
-        Verdict::Refused(e) => Verdict::Refused(e),
-        Verdict::Accepted(bus) => {
-            if devices.len() == ports::DEVICES_LENGTH {
-                let fit = lent_fit(bus, ram, a, b, border) & (answer == TIMED_LENGTH);
-                let flags = ports::flags(devices);
-                let full = frames_full(bus);
-                first_cause(
-                    bus,
-                    Causes {
-                        length: !fit,
-                        flag: !flags,
-                        frames: full,
-                        ..NONE
-                    },
-                )
-            } else {
-                Verdict::Refused(Refusal::BadLength)
-            }
-        }
+    let bus = judge_state(state)?;
+    if devices.len() == ports::DEVICES_LENGTH {
+        let fit = lent_fit(bus, ram, a, b, border) & (answer == TIMED_LENGTH);
+        let flags = ports::flags(devices);
+        let full = frames_full(bus);
+        first_cause(
+            bus,
+            Causes {
+                length: !fit,
+                flag: !flags,
+                frames: full,
+                ..NONE
+            },
+        )
+    } else {
+        Err(Refusal::BadLength)
     }
 }
 
 // The record, and a number to give.
-pub fn judge_told(state: &[u8], answer: usize) -> Verdict
+pub fn judge_told(state: &[u8], answer: usize) -> Result<Bus, Refusal>
     ensures { result ≡ judge_told state.now answer }
 {
-    let v = judge_state(state);
-    match v {
-        Verdict::Refused(e) => Verdict::Refused(e),
-        Verdict::Accepted(bus) => {
-            first_cause(
-                bus,
-                Causes {
-                    length: !(answer == NUMBER_LENGTH),
-                    ..NONE
-                },
-            )
-        }
-    }
+    let bus = judge_state(state)?;
+    first_cause(
+        bus,
+        Causes {
+            length: !(answer == NUMBER_LENGTH),
+            ..NONE
+        },
+    )
 }
 
-pub fn judge_read(state: &[u8], rom: usize, ram: usize, answer: usize) -> Verdict
+pub fn judge_read(state: &[u8], rom: usize, ram: usize, answer: usize) -> Result<Bus, Refusal>
     ensures { result ≡ judge_read state.now rom ram answer }
 {
-    let v = judge_state(state);
-    match v {
-        Verdict::Refused(e) => Verdict::Refused(e),
-        Verdict::Accepted(bus) => {
-            let fit = rom_fits(bus, rom) & ram_fits(bus, ram) & (answer == NUMBER_LENGTH);
-            first_cause(
-                bus,
-                Causes {
-                    length: !fit,
-                    ..NONE
-                },
-            )
-        }
-    }
+    let bus = judge_state(state)?;
+    let fit = rom_fits(bus, rom) & ram_fits(bus, ram) & (answer == NUMBER_LENGTH);
+    first_cause(
+        bus,
+        Causes {
+            length: !fit,
+            ..NONE
+        },
+    )
 }
 
-pub fn judge_write(state: &[u8], ram: usize) -> Verdict
+pub fn judge_write(state: &[u8], ram: usize) -> Result<Bus, Refusal>
     ensures { result ≡ judge_write state.now ram }
 {
-    let v = judge_state(state);
-    match v {
-        Verdict::Refused(e) => Verdict::Refused(e),
-        Verdict::Accepted(bus) => {
-            let fit = ram_fits(bus, ram);
-            first_cause(
-                bus,
-                Causes {
-                    length: !fit,
-                    ..NONE
-                },
-            )
-        }
-    }
+    let bus = judge_state(state)?;
+    let fit = ram_fits(bus, ram);
+    first_cause(
+        bus,
+        Causes {
+            length: !fit,
+            ..NONE
+        },
+    )
 }
 
 fn page_missing(bus: Bus, page: u32) -> bool
@@ -291,108 +258,83 @@ fn page_missing(bus: Bus, page: u32) -> bool
     !memory::page_exists(m, page)
 }
 
-pub fn judge_load(state: &[u8], ram: usize, bytes: usize, page: u32) -> Verdict
+pub fn judge_load(state: &[u8], ram: usize, bytes: usize, page: u32) -> Result<Bus, Refusal>
     ensures { result ≡ judge_load state.now ram bytes page }
 {
-    let v = judge_state(state);
-    match v {
-        Verdict::Refused(e) => Verdict::Refused(e),
-        Verdict::Accepted(bus) => {
-            let fit = ram_fits(bus, ram) & (bytes == machine::PAGE_LENGTH);
-            let missing = page_missing(bus, page);
-            first_cause(
-                bus,
-                Causes {
-                    length: !fit,
-                    page: missing,
-                    ..NONE
-                },
-            )
-        }
-    }
+    let bus = judge_state(state)?;
+    let fit = ram_fits(bus, ram) & (bytes == machine::PAGE_LENGTH);
+    let missing = page_missing(bus, page);
+    first_cause(
+        bus,
+        Causes {
+            length: !fit,
+            page: missing,
+            ..NONE
+        },
+    )
 }
 
 // Of the three that hand back a part a Rattle caller lends no answer, and gives the length that fits.
-pub fn judge_ram_page(state: &[u8], ram: usize, page: u32, answer: usize) -> Verdict
+pub fn judge_ram_page(state: &[u8], ram: usize, page: u32, answer: usize) -> Result<Bus, Refusal>
     ensures { result ≡ judge_ram_page state.now ram page (number_fits answer) }
 {
-    let v = judge_state(state);
-    match v {
-        Verdict::Refused(e) => Verdict::Refused(e),
-        Verdict::Accepted(bus) => {
-            let fit = ram_fits(bus, ram) & (answer == NUMBER_LENGTH);
-            let missing = page_missing(bus, page);
-            first_cause(
-                bus,
-                Causes {
-                    length: !fit,
-                    page: missing,
-                    ..NONE
-                },
-            )
-        }
-    }
+    let bus = judge_state(state)?;
+    let fit = ram_fits(bus, ram) & (answer == NUMBER_LENGTH);
+    let missing = page_missing(bus, page);
+    first_cause(
+        bus,
+        Causes {
+            length: !fit,
+            page: missing,
+            ..NONE
+        },
+    )
 }
 
-pub fn judge_block(state: &[u8], rom: usize, ram: usize, block: u32, answer: usize) -> Verdict
+pub fn judge_block(state: &[u8], rom: usize, ram: usize, block: u32, answer: usize) -> Result<Bus, Refusal>
     ensures { result ≡ judge_block state.now rom ram block (number_fits answer) }
 {
-    let v = judge_state(state);
-    match v {
-        Verdict::Refused(e) => Verdict::Refused(e),
-        Verdict::Accepted(bus) => {
-            let fit = rom_fits(bus, rom) & ram_fits(bus, ram) & (answer == NUMBER_LENGTH);
-            first_cause(
-                bus,
-                Causes {
-                    length: !fit,
-                    number: 3 < block,
-                    ..NONE
-                },
-            )
-        }
-    }
+    let bus = judge_state(state)?;
+    let fit = rom_fits(bus, rom) & ram_fits(bus, ram) & (answer == NUMBER_LENGTH);
+    first_cause(
+        bus,
+        Causes {
+            length: !fit,
+            number: 3 < block,
+            ..NONE
+        },
+    )
 }
 
-pub fn judge_shown(state: &[u8], a: usize, b: usize, answer: usize) -> Verdict
+pub fn judge_shown(state: &[u8], a: usize, b: usize, answer: usize) -> Result<Bus, Refusal>
     ensures { result ≡ judge_shown state.now a b (number_fits answer) }
 {
-    let v = judge_state(state);
-    match v {
-        Verdict::Refused(e) => Verdict::Refused(e),
-        Verdict::Accepted(bus) => {
-            let fit = (a == machine::PICTURE_LENGTH)
-                & (b == machine::PICTURE_LENGTH)
-                & (answer == NUMBER_LENGTH);
-            first_cause(
-                bus,
-                Causes {
-                    length: !fit,
-                    ..NONE
-                },
-            )
-        }
-    }
+    let bus = judge_state(state)?;
+    let fit = (a == machine::PICTURE_LENGTH)
+        & (b == machine::PICTURE_LENGTH)
+        & (answer == NUMBER_LENGTH);
+    first_cause(
+        bus,
+        Causes {
+            length: !fit,
+            ..NONE
+        },
+    )
 }
 
-pub fn judge_still(state: &[u8], ram: usize, picture: usize, flash: u32) -> Verdict
+pub fn judge_still(state: &[u8], ram: usize, picture: usize, flash: u32) -> Result<Bus, Refusal>
     ensures { result ≡ judge_still state.now ram picture flash }
 {
-    let v = judge_state(state);
-    match v {
-        Verdict::Refused(e) => Verdict::Refused(e),
-        Verdict::Accepted(bus) => {
-            let fit = ram_fits(bus, ram) & (picture == machine::PICTURE_LENGTH);
-            first_cause(
-                bus,
-                Causes {
-                    length: !fit,
-                    number: 1 < flash,
-                    ..NONE
-                },
-            )
-        }
-    }
+    let bus = judge_state(state)?;
+    let fit = ram_fits(bus, ram) & (picture == machine::PICTURE_LENGTH);
+    first_cause(
+        bus,
+        Causes {
+            length: !fit,
+            number: 1 < flash,
+            ..NONE
+        },
+    )
 }
 
 // The slices of a screen file's calls: RAM, and the file.
@@ -403,23 +345,18 @@ fn screen_fits(bus: Bus, ram: usize, file: usize) -> bool
 }
 
 // The shown page is always a video page, so that saving judges none.
-pub fn judge_save_scr(state: &[u8], ram: usize, file: usize) -> Verdict
+pub fn judge_save_scr(state: &[u8], ram: usize, file: usize) -> Result<Bus, Refusal>
     ensures { result ≡ judge_save_scr state.now ram file }
 {
-    let v = judge_state(state);
-    match v {
-        Verdict::Refused(e) => Verdict::Refused(e),
-        Verdict::Accepted(bus) => {
-            let fit = screen_fits(bus, ram, file);
-            first_cause(
-                bus,
-                Causes {
-                    length: !fit,
-                    ..NONE
-                },
-            )
-        }
-    }
+    let bus = judge_state(state)?;
+    let fit = screen_fits(bus, ram, file);
+    first_cause(
+        bus,
+        Causes {
+            length: !fit,
+            ..NONE
+        },
+    )
 }
 
 // No page of the machine that its screen may show.
@@ -430,27 +367,22 @@ fn no_video_page(bus: Bus, page: u32) -> bool
     !memory::is_video_page(m, page)
 }
 
-pub fn judge_load_scr(state: &[u8], ram: usize, file: usize, page: u32) -> Verdict
+pub fn judge_load_scr(state: &[u8], ram: usize, file: usize, page: u32) -> Result<Bus, Refusal>
     ensures { result ≡ judge_load_scr state.now ram file page }
 {
-    let v = judge_state(state);
-    match v {
-        Verdict::Refused(e) => Verdict::Refused(e),
-        Verdict::Accepted(bus) => {
-            let fit = screen_fits(bus, ram, file);
-            let missing = page_missing(bus, page);
-            let unshown = no_video_page(bus, page);
-            first_cause(
-                bus,
-                Causes {
-                    length: !fit,
-                    page: missing,
-                    video: unshown,
-                    ..NONE
-                },
-            )
-        }
-    }
+    let bus = judge_state(state)?;
+    let fit = screen_fits(bus, ram, file);
+    let missing = page_missing(bus, page);
+    let unshown = no_video_page(bus, page);
+    first_cause(
+        bus,
+        Causes {
+            length: !fit,
+            page: missing,
+            video: unshown,
+            ..NONE
+        },
+    )
 }
 
 // A snapshot's size is not the one that is due.
@@ -462,25 +394,20 @@ fn wrong_size(bus: Bus, file: usize) -> bool
     !(file == due)
 }
 
-pub fn judge_save_sna(state: &[u8], ram: usize, file: usize, registers: usize) -> Verdict
+pub fn judge_save_sna(state: &[u8], ram: usize, file: usize, registers: usize) -> Result<Bus, Refusal>
     ensures { result ≡ judge_save_sna state.now ram file registers }
 {
-    let v = judge_state(state);
-    match v {
-        Verdict::Refused(e) => Verdict::Refused(e),
-        Verdict::Accepted(bus) => {
-            let fit = ram_fits(bus, ram) & (registers == snapshot::REGISTERS_LENGTH);
-            let wrong = wrong_size(bus, file);
-            first_cause(
-                bus,
-                Causes {
-                    length: !fit,
-                    size: wrong,
-                    ..NONE
-                },
-            )
-        }
-    }
+    let bus = judge_state(state)?;
+    let fit = ram_fits(bus, ram) & (registers == snapshot::REGISTERS_LENGTH);
+    let wrong = wrong_size(bus, file);
+    first_cause(
+        bus,
+        Causes {
+            length: !fit,
+            size: wrong,
+            ..NONE
+        },
+    )
 }
 
 // The slices of a start, and of an import.

@@ -6,7 +6,6 @@
 ghost use Rattle.std.specs.Prelude.{◌≡◌};
 ghost use Rattle.contracts.specs.Plain.{told, changed, read_internal, load_page, ram_page_told, block_told, ram_page_part, block_part};
 
-use judgement::Verdict;
 use memory::Page;
 
 // Byte read.
@@ -20,10 +19,9 @@ pub extern "C" fn ulb_read_internal(
 ) -> u8
     ensures { told result answer.new ≡ read_internal state.now rom.now ram.now addr answer.old }
 {
-    let v = judgement::judge_read(state, rom.len(), ram.len(), answer.len());
-    match v {
-        Verdict::Refused(e) => judgement::refuse(answer, judgement::NUMBER_LENGTH, e),
-        Verdict::Accepted(bus) => {
+    match judgement::judge_read(state, rom.len(), ram.len(), answer.len()) {
+        Err(e) => judgement::refuse(answer, judgement::NUMBER_LENGTH, e),
+        Ok(bus) => {
             let m = bus.machine;
             let value = memory::read(m, bus.paging, rom, ram, addr);
             judgement::fill_number(answer, value as u32);
@@ -37,10 +35,9 @@ pub extern "C" fn ulb_read_internal(
 pub extern "C" fn ulb_load_page(state: &[u8], ram: &mut [u8], src: &[u8], page: u32) -> u8
     ensures { changed result ram.new ≡ load_page state.now ram.old src.now page }
 {
-    let v = judgement::judge_load(state, ram.len(), src.len(), page);
-    match v {
-        Verdict::Refused(e) => judgement::number(e),
-        Verdict::Accepted(_) => {
+    match judgement::judge_load(state, ram.len(), src.len(), page) {
+        Err(e) => judgement::number(e),
+        Ok(_) => {
             memory::load(ram, page, src);
             0
         }
@@ -51,10 +48,9 @@ pub extern "C" fn ulb_load_page(state: &[u8], ram: &mut [u8], src: &[u8], page: 
 pub extern "C" fn ulb_ram_page(state: &[u8], ram: &[u8], page: u32, answer: &mut [u8]) -> u8
     ensures { told result answer.new ≡ ram_page_told state.now ram.now page answer.old }
 {
-    let v = judgement::judge_ram_page(state, ram.len(), page, answer.len());
-    match v {
-        Verdict::Refused(e) => judgement::refuse(answer, judgement::NUMBER_LENGTH, e),
-        Verdict::Accepted(bus) => {
+    match judgement::judge_ram_page(state, ram.len(), page, answer.len()) {
+        Err(e) => judgement::refuse(answer, judgement::NUMBER_LENGTH, e),
+        Ok(bus) => {
             let m = bus.machine;
             let number = page as u8;
             let start = memory::part_start(m, Page::Ram(number));
@@ -74,10 +70,9 @@ pub extern "C" fn ulb_block(
 ) -> u8
     ensures { told result answer.new ≡ block_told state.now rom.now ram.now block answer.old }
 {
-    let v = judgement::judge_block(state, rom.len(), ram.len(), block, answer.len());
-    match v {
-        Verdict::Refused(e) => judgement::refuse(answer, judgement::NUMBER_LENGTH, e),
-        Verdict::Accepted(bus) => {
+    match judgement::judge_block(state, rom.len(), ram.len(), block, answer.len()) {
+        Err(e) => judgement::refuse(answer, judgement::NUMBER_LENGTH, e),
+        Ok(bus) => {
             let m = bus.machine;
             let page = memory::get_bank_type(m, bus.paging, block);
             let start = memory::part_start(m, page);
@@ -91,10 +86,9 @@ pub extern "C" fn ulb_block(
 pub fn ram_page<'a>(state: &[u8], ram: &'a [u8], page: u32) -> &'a [u8]
     ensures { result.now ≡ ram_page_part state.now ram.now page }
 {
-    let v = judgement::judge_ram_page(state, ram.len(), page, judgement::NUMBER_LENGTH);
-    match v {
-        Verdict::Refused(_) => &ram[..0],
-        Verdict::Accepted(_) => memory::ram_page_data(ram, page),
+    match judgement::judge_ram_page(state, ram.len(), page, judgement::NUMBER_LENGTH) {
+        Err(_) => &ram[..0],
+        Ok(_) => memory::ram_page_data(ram, page),
     }
 }
 
@@ -102,10 +96,9 @@ pub fn ram_page<'a>(state: &[u8], ram: &'a [u8], page: u32) -> &'a [u8]
 pub fn block<'a>(state: &[u8], rom: &'a [u8], ram: &'a [u8], block: u32) -> &'a [u8]
     ensures { result.now ≡ block_part state.now rom.now ram.now block }
 {
-    let v = judgement::judge_block(state, rom.len(), ram.len(), block, judgement::NUMBER_LENGTH);
-    match v {
-        Verdict::Refused(_) => &rom[..0],
-        Verdict::Accepted(bus) => {
+    match judgement::judge_block(state, rom.len(), ram.len(), block, judgement::NUMBER_LENGTH) {
+        Err(_) => &rom[..0],
+        Ok(bus) => {
             let m = bus.machine;
             let page = memory::get_bank_type(m, bus.paging, block);
             memory::page_data(page, rom, ram)

@@ -8,16 +8,14 @@ ghost use Rattle.bus.specs.Time.{shows_a};
 ghost use Rattle.contracts.specs.Plain.{told, changed, shown_told, still_picture, shown_part};
 ghost use Rattle.machine.specs.Limits.{picture_length};
 
-use judgement::Verdict;
 
 #[unsafe(no_mangle)]
 pub extern "C" fn ulb_shown_picture(state: &[u8], a: &[u8], b: &[u8], answer: &mut [u8]) -> u8
     ensures { told result answer.new ≡ shown_told state.now a.now b.now answer.old }
 {
-    let v = judgement::judge_shown(state, a.len(), b.len(), answer.len());
-    match v {
-        Verdict::Refused(e) => judgement::refuse(answer, judgement::NUMBER_LENGTH, e),
-        Verdict::Accepted(bus) => {
+    match judgement::judge_shown(state, a.len(), b.len(), answer.len()) {
+        Err(e) => judgement::refuse(answer, judgement::NUMBER_LENGTH, e),
+        Ok(bus) => {
             let start = shown_start(bus.phase);
             judgement::fill_number(answer, start);
             0
@@ -40,10 +38,9 @@ fn shown_start(phase: u8) -> u32
 pub fn shown_picture<'a>(state: &[u8], a: &'a [u8], b: &'a [u8]) -> &'a [u8]
     ensures { result.now ≡ shown_part state.now a.now b.now }
 {
-    let v = judgement::judge_shown(state, a.len(), b.len(), judgement::NUMBER_LENGTH);
-    match v {
-        Verdict::Refused(_) => &a[..0],
-        Verdict::Accepted(bus) => { if bus.phase % 2 == 0 { a } else { b } }
+    match judgement::judge_shown(state, a.len(), b.len(), judgement::NUMBER_LENGTH) {
+        Err(_) => &a[..0],
+        Ok(bus) => { if bus.phase % 2 == 0 { a } else { b } }
     }
 }
 
@@ -52,10 +49,9 @@ pub fn shown_picture<'a>(state: &[u8], a: &'a [u8], b: &'a [u8]) -> &'a [u8]
 pub extern "C" fn ulb_still_picture(state: &[u8], ram: &[u8], picture: &mut [u8], flash: u32) -> u8
     ensures { changed result picture.new ≡ still_picture state.now ram.now picture.old flash }
 {
-    let v = judgement::judge_still(state, ram.len(), picture.len(), flash);
-    match v {
-        Verdict::Refused(e) => judgement::number(e),
-        Verdict::Accepted(bus) => {
+    match judgement::judge_still(state, ram.len(), picture.len(), flash) {
+        Err(e) => judgement::number(e),
+        Ok(bus) => {
             let m = bus.machine;
             let shown = memory::screen_bank(m, bus.paging);
             let page = memory::ram_page_data(ram, shown as u32);

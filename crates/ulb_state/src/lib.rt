@@ -6,7 +6,6 @@
 ghost use Rattle.std.specs.Prelude.{◌≡◌};
 ghost use Rattle.contracts.specs.Plain.{told, changed, repaged, write7ffd_call, read7ffd, int_active, frames_count, reset_frames};
 
-use judgement::Verdict;
 use record::Bus;
 
 // The 7FFD write: it takes no time, and nothing is caught up.
@@ -14,10 +13,9 @@ use record::Bus;
 pub extern "C" fn ulb_write_7ffd(state: &mut [u8], value: u8, answer: &mut [u8]) -> u8
     ensures { repaged result state.new answer.new ≡ write7ffd_call state.old value answer.old }
 {
-    let v = judgement::judge_told(state, answer.len());
-    match v {
-        Verdict::Refused(e) => judgement::refuse(answer, judgement::NUMBER_LENGTH, e),
-        Verdict::Accepted(bus) => {
+    match judgement::judge_told(state, answer.len()) {
+        Err(e) => judgement::refuse(answer, judgement::NUMBER_LENGTH, e),
+        Ok(bus) => {
             let m = bus.machine;
             let paged = memory::write_7ffd(m, bus.paging, value);
             let code = memory::paged_code(paged);
@@ -34,10 +32,9 @@ pub extern "C" fn ulb_write_7ffd(state: &mut [u8], value: u8, answer: &mut [u8])
 pub extern "C" fn ulb_read_7ffd(state: &[u8], answer: &mut [u8]) -> u8
     ensures { told result answer.new ≡ read7ffd state.now answer.old }
 {
-    let v = judgement::judge_told(state, answer.len());
-    match v {
-        Verdict::Refused(e) => judgement::refuse(answer, judgement::NUMBER_LENGTH, e),
-        Verdict::Accepted(bus) => {
+    match judgement::judge_told(state, answer.len()) {
+        Err(e) => judgement::refuse(answer, judgement::NUMBER_LENGTH, e),
+        Ok(bus) => {
             judgement::fill_number(answer, bus.paging as u32);
             0
         }
@@ -48,10 +45,9 @@ pub extern "C" fn ulb_read_7ffd(state: &[u8], answer: &mut [u8]) -> u8
 pub extern "C" fn ulb_int_active(state: &[u8], answer: &mut [u8]) -> u8
     ensures { told result answer.new ≡ int_active state.now answer.old }
 {
-    let v = judgement::judge_told(state, answer.len());
-    match v {
-        Verdict::Refused(e) => judgement::refuse(answer, judgement::NUMBER_LENGTH, e),
-        Verdict::Accepted(bus) => {
+    match judgement::judge_told(state, answer.len()) {
+        Err(e) => judgement::refuse(answer, judgement::NUMBER_LENGTH, e),
+        Ok(bus) => {
             let on = judgement::flag(machine::int_active(bus.clock));
             judgement::fill_number(answer, on as u32);
             0
@@ -64,10 +60,9 @@ pub extern "C" fn ulb_int_active(state: &[u8], answer: &mut [u8]) -> u8
 pub extern "C" fn ulb_frames_count(state: &[u8], answer: &mut [u8]) -> u8
     ensures { told result answer.new ≡ frames_count state.now answer.old }
 {
-    let v = judgement::judge_told(state, answer.len());
-    match v {
-        Verdict::Refused(e) => judgement::refuse(answer, judgement::NUMBER_LENGTH, e),
-        Verdict::Accepted(bus) => {
+    match judgement::judge_told(state, answer.len()) {
+        Err(e) => judgement::refuse(answer, judgement::NUMBER_LENGTH, e),
+        Ok(bus) => {
             judgement::fill_number(answer, bus.passed);
             0
         }
@@ -79,10 +74,9 @@ pub extern "C" fn ulb_frames_count(state: &[u8], answer: &mut [u8]) -> u8
 pub extern "C" fn ulb_reset_frame_counter(state: &mut [u8]) -> u8
     ensures { changed result state.new ≡ reset_frames state.old }
 {
-    let v = judgement::judge_state(state);
-    match v {
-        Verdict::Refused(e) => judgement::number(e),
-        Verdict::Accepted(bus) => {
+    match judgement::judge_state(state) {
+        Err(e) => judgement::number(e),
+        Ok(bus) => {
             record::encode(state, Bus { passed: 0, ..bus });
             0
         }

@@ -6,17 +6,15 @@
 ghost use Rattle.std.specs.Prelude.{◌≡◌};
 ghost use Rattle.contracts.specs.Plain.{changed, write_internal};
 
-use judgement::Verdict;
 
 // Byte write.
 #[unsafe(no_mangle)]
 pub extern "C" fn ulb_write_internal(state: &[u8], ram: &mut [u8], addr: u16, value: u8) -> u8
     ensures { changed result ram.new ≡ write_internal state.now ram.old addr value }
 {
-    let v = judgement::judge_write(state, ram.len());
-    match v {
-        Verdict::Refused(e) => judgement::number(e),
-        Verdict::Accepted(bus) => {
+    match judgement::judge_write(state, ram.len()) {
+        Err(e) => judgement::number(e),
+        Ok(bus) => {
             let m = bus.machine;
             memory::write(m, bus.paging, ram, addr, value);
             0

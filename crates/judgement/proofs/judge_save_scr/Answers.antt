@@ -3,15 +3,14 @@
 use Rattle.judgement.specs.Refusals.{judged}
 use Rattle.judgement.specs.Judges.{judge_save_scr}
 use Rattle.judgement.proofs.Judging.{refused_before, accepted_then}
-use borrow.Author.Rules.{rules}
 use Rattle.judgement.proofs.judge_save_scr.Goals as goal
 
-pub returns-in-Refused : goal.returns-in-Refused
+pub returns-in_err-bus : goal.returns-in_err-bus
 unfolding judge_save_scr
-returns-in-Refused c = search (refused_before, rules)
+returns-in_err-bus c = refused_before _ _ _ c.judge_state.ensures _ _ c.in_err-bus.was c.from_residual.ensures
 
-pub returns-in-Accepted : goal.returns-in-Accepted
+pub returns : goal.returns
 unfolding judge_save_scr judged
-returns-in-Accepted c =
-    accepted_then _ _ _ c.judge_state-v.ensures _ _ c.in-Accepted.is
+returns c =
+    accepted_then _ _ _ c.judge_state.ensures _ _ c.in_ok-bus.was
     (rw (c.first_cause.ensures, c.screen_fits-fit.ensures))

@@ -6,12 +6,12 @@ use Rattle.judgement.proofs.judge_state.Goals as goal
 
 pub returns-in-WrongLength : goal.returns-in-WrongLength
 unfolding judge_state judged
-returns-in-WrongLength c = rw (← c.look-held.ensures, c.in-WrongLength.is)
+returns-in-WrongLength c = rw (← c.look.ensures, c.in-WrongLength.is)
 
 pub returns-in-Unsound : goal.returns-in-Unsound
 unfolding judge_state judged
-returns-in-Unsound c = rw (← c.look-held.ensures, c.in-Unsound.is)
+returns-in-Unsound c = rw (← c.look.ensures, c.in-Unsound.is)
 
 pub returns-in-Sound : goal.returns-in-Sound
 unfolding judge_state judged
-returns-in-Sound c = rw (← c.look-held.ensures, c.in-Sound.is)
+returns-in-Sound c = rw (← c.look.ensures, c.in-Sound.is)
