@@ -9,13 +9,13 @@ use native.Mathlib.Omega.{arith}
 use lib.Dec.{eqb, ltb}
 use lib.ListN.{length, take, drop}
 use borrow.Author.Tests.{eq-eqb, ne_eqb, eqb-true, eqb-false, le-ltb, ltb-false, not-false}
-use Rattle.std.specs.Prelude.{Ok}
+use Rattle.std.specs.Prelude.{Ok, Result, Err}
 use Rattle.machine.specs.declared.ZXMachine.{ZXMachine}
 use Rattle.machine.specs.declared.ZXMachine.TheVariants.{Sinclair48K, Sinclair128K}
 use Rattle.machine.specs.Numbers.{specs_of}
 use Rattle.record.specs.declared.Bus.{Bus}
-use Rattle.record.specs.declared.Held.{Held}
-use Rattle.record.specs.declared.Held.TheVariants as held
+use Rattle.record.specs.declared.BadRecord.{BadRecord}
+use Rattle.record.specs.declared.BadRecord.TheVariants as bad
 use Rattle.record.specs.Words.{Bytes}
 use Rattle.record.specs.Record.{record_of, record_bytes, held_by, machine_number, machine_of, fresh_record}
 use Rattle.record.proofs.Soundness.{facts_sound}
@@ -154,7 +154,7 @@ module _ (state ram file registers : List ℕ) (z : (save_sna state ram file reg
 -- AND WHERE AN EXPORT IS: "or the record's when writing". On a sound record, with RAM and registers of their lengths, a file of any other size is refused
 -- with 10; and only such.
 module _ (state ram file registers : List ℕ) where
-  pub export_size_is_ten : (bus : Bus) → held_by state ≡ held.Sound bus → export_fits bus (length ram) (length registers) ≡ true
+  pub export_size_is_ten : (bus : Bus) → held_by state ≡ Ok bus → export_fits bus (length ram) (length registers) ≡ true
       → (length file ≡ due_size bus.machine bus.paging → ⊥) → (save_sna state ram file registers).code ≡ 10
   unfolding save_sna judge_save_sna judged
   export_size_is_ten bus h fits other = rw (h, fits, ne_eqb (length file) (due_size bus.machine bus.paging) other)
@@ -165,17 +165,17 @@ module _ (state ram file registers : List ℕ) where
   third_by false true bus e = (refl, refl)
   third_by false false bus e = absurd (omega arith)
 
-  ten_by_held : (h : Held) → held_by state ≡ h → code_of (judged_held h (save_sna_causes (length ram) (length file) (length registers))) ≡ 10
-      → (bus : Bus) × ((held_by state ≡ held.Sound bus) × (export_fits bus (length ram) (length registers) ≡ true)
+  ten_by_held : (h : Result Bus BadRecord) → held_by state ≡ h → code_of (judged_held h (save_sna_causes (length ram) (length file) (length registers))) ≡ 10
+      → (bus : Bus) × ((held_by state ≡ Ok bus) × (export_fits bus (length ram) (length registers) ≡ true)
       × (length file ≡ due_size bus.machine bus.paging → ⊥))
-  ten_by_held held.WrongLength p e = absurd (omega arith)
-  ten_by_held held.Unsound p e = absurd (omega arith)
-  ten_by_held (held.Sound bus) p e =
+  ten_by_held (Err bad.WrongLength) p e = absurd (omega arith)
+  ten_by_held (Err bad.Unsound) p e = absurd (omega arith)
+  ten_by_held (Ok bus) p e =
       let t = third_by _ _ bus e in
       (bus, (p, not-false _ t.0, eqb-false (length file) (due_size bus.machine bus.paging) (not_true _ t.1)))
 
   pub export_ten_is_size : (save_sna state ram file registers).code ≡ 10
-      → (bus : Bus) × ((held_by state ≡ held.Sound bus) × (export_fits bus (length ram) (length registers) ≡ true)
+      → (bus : Bus) × ((held_by state ≡ Ok bus) × (export_fits bus (length ram) (length registers) ≡ true)
       × (length file ≡ due_size bus.machine bus.paging → ⊥))
   unfolding judge_save_sna
   export_ten_is_size e =
@@ -217,7 +217,7 @@ save_then_load state ram file registers z l filled fits =
     ∙ rw (page, edge, ram_back m b.paging b.reported ram registers r.ram_is r.registers_is u, registers_back m b.paging b.reported ram registers r.ram_is r.registers_is)
 
 -- an export that nothing speaks against
-export_by : (state ram out registers : List ℕ) (bus : Bus) → held_by state ≡ held.Sound bus → length ram ≡ (specs_of bus.machine).ram
+export_by : (state ram out registers : List ℕ) (bus : Bus) → held_by state ≡ Ok bus → length ram ≡ (specs_of bus.machine).ram
     → length registers ≡ registers_length → length out ≡ due_size bus.machine bus.paging
     → save_sna state ram out registers ≡ changed 0 (snapshot_file bus.machine bus.paging bus.reported ram registers)
 unfolding save_sna judge_save_sna judged

@@ -13,7 +13,6 @@ use Rattle.laws.proofs.Cases.{by_bool}
 use Rattle.machine.specs.declared.ZXMachine.{ZXMachine}
 use Rattle.machine.specs.declared.ZXMachine.TheVariants.{Sinclair48K, Sinclair128K}
 use Rattle.record.specs.declared.Bus.{Bus}
-use Rattle.record.specs.declared.Held.TheVariants as held
 use Rattle.record.specs.Record.{record_bytes, held_by, machine_of, with_paging, with_passed, HasRoom}
 use Rattle.record.specs.Sound.{Sound}
 use Rattle.record.proofs.Soundness.{facts_sound}
@@ -41,7 +40,7 @@ use Rattle.contracts.proofs.Starts.{start_left, begun_sound}
 
 -- these bytes are held as a sound record
 abbrev pub Good : List ℕ → Type 0
-Good state = (bus : Bus) × (held_by state ≡ held.Sound bus)
+Good state = (bus : Bus) × (held_by state ≡ Ok bus)
 
 good : (bus : Bus) → Sound bus → Good (record_bytes bus)
 good bus s = (bus, held_encode bus (facts_sound bus s))

@@ -9,13 +9,13 @@ use mathlib.Core.Path.{◌≡◌, refl, sym, ◌∙◌, ap, subst}
 use native.Mathlib.Omega.{arith}
 use native.Mathlib.Nat.{mul-add-div_right, div-eq_of_lt, add-zero}
 use lib.ListN.{length, get_or}
+use Rattle.std.specs.Prelude.{Ok}
 use Rattle.machine.specs.declared.ZXMachine.{ZXMachine}
 use Rattle.machine.specs.Numbers.{specs_of}
 use Rattle.machine.specs.Limits.{longest_wait}
 use Rattle.machine.specs.Timing.{block_position}
 use Rattle.machine.proofs.Numbered.{regular}
 use Rattle.machine.proofs.Rising.{blocks_mono}
-use Rattle.record.specs.declared.Held.TheVariants as held
 use Rattle.record.specs.Record.{held_by, HasRoom}
 use Rattle.record.proofs.Soundness.{facts_sound}
 use Rattle.record.proofs.Round.{held_encode}
@@ -89,7 +89,7 @@ module _ (m : ZXMachine) (w : World) (fresh : Fresh m w) (cs : List Made) (obeye
   -- ---- the record
 
   -- THE RECORD STAYS SOUND FOR EVER: after any calls the state bytes are held as a sound record, the one of the history's world.
-  pub record_sound : held_by (bytes_after m w cs).slices.state ≡ held.Sound (bus_of m (history m w cs).world)
+  pub record_sound : held_by (bytes_after m w cs).slices.state ≡ Ok (bus_of m (history m w cs).world)
   record_sound =
       let i = history_stands m w fresh cs obeyed typed again in
       ap (λ (l : Lent). held_by l.state) i.slices

@@ -1,22 +1,22 @@
 -- What an accepted judgement tells: the record is sound and is the one that the bytes stand for, and every length and number is right.
 -- Assumes nothing.
 use Prim.Native.Nat.{ℕ, ◌≤◌}
-use mathlib.Core.Path.{◌≡◌, sym, ap}
+use mathlib.Core.Path.{◌≡◌}
 use mathlib.Core.Bool.{Bool, true, false, ◌&&◌}
 use mathlib.Core.List.{List, [], ◌∷◌}
 use native.Mathlib.Omega.{arith}
 use borrow.Author.Tests.{eqb-true, eqb-false, ltb-false, not-false}
 use lib.Dec.{eqb}
 use lib.ListN.{length}
-use Rattle.std.specs.Prelude.{Ok}
+use Rattle.std.specs.Prelude.{Ok, Result, Err}
 use Rattle.laws.proofs.Cases.{and_left, and_right, and_both}
 use Rattle.laws.proofs.Conjunction.{each}
 use Rattle.machine.specs.declared.ZXMachine.{ZXMachine}
 use Rattle.machine.specs.Numbers.{specs_of}
 use Rattle.machine.specs.Limits.{picture_length, border_length, page_length, longest_wait}
 use Rattle.record.specs.declared.Bus.{Bus}
-use Rattle.record.specs.declared.Held.{Held}
-use Rattle.record.specs.declared.Held.TheVariants as held
+use Rattle.record.specs.declared.BadRecord.{BadRecord}
+use Rattle.record.specs.declared.BadRecord.TheVariants as bad
 use Rattle.record.specs.Record.{record_length, machine_of, record_bytes, held_by, last_frame, no_room, HasRoom}
 use Rattle.record.proofs.Soundness.{sound_facts}
 use Rattle.record.specs.Words.{Bytes}
@@ -31,17 +31,15 @@ use Rattle.judgement.specs.Judges.{ram_fits, rom_fits, picture_fits, border_fits
 use Rattle.judgement.specs.Order.{NoneHolds}
 use Rattle.judgement.specs.Ready.{OnRecord, Fit, StartFit, ReadyStart, ReadyWait, ReadyPort, ReadyTold, ReadyRead, ReadyWrite, ReadyLoad, ReadyRamPage, ReadyBlock, ReadyShown, ReadyStill, ReadySaveScr, ReadyLoadScr, ReadyLoadSna, ReadySaveSna}
 use Rattle.judgement.specs.Answers.{timed_length, number_length}
-use Rattle.judgement.proofs.Judging.{never}
 use Rattle.judgement.proofs.Order.{accepted_by_none_lem, start_colour_ordered, load_sna_ordered}
 
-by_held : (h : Held) (causes : Bus → List Cause) (bus : Bus) → judged_held h causes ≡ Ok bus → (h ≡ held.Sound bus) × NoneHolds (causes bus)
-by_held held.WrongLength causes bus p = never _ bus p
-by_held held.Unsound causes bus p = never _ bus p
-by_held (held.Sound b) causes bus p =
+by_held : (h : Result Bus BadRecord) (causes : Bus → List Cause) (bus : Bus) → judged_held h causes ≡ Ok bus → (h ≡ Ok bus) × NoneHolds (causes bus)
+by_held (Err bad) causes bus p = cc
+by_held (Ok b) causes bus p =
     let n = accepted_by_none_lem (causes b) b bus p in
-    (ap held.Sound (sym n.1), rw n.1 n.0)
+    (rw n.1, rw n.1 n.0)
 
-on_record_lem : (state : List ℕ) (bus : Bus) → held_by state ≡ held.Sound bus → OnRecord state bus
+on_record_lem : (state : List ℕ) (bus : Bus) → held_by state ≡ Ok bus → OnRecord state bus
 on_record_lem state bus h =
     let d = held_decode state bus h in
     record { long = d.0; is_held = h; decodes = d.2; sound = sound_facts bus (held_sound state bus h) }

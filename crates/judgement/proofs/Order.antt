@@ -9,14 +9,13 @@ use lib.Dec.{eqb}
 use lib.ListN.{length}
 use Rattle.std.specs.Prelude.{Result, Ok, Err}
 use Rattle.record.specs.declared.Bus.{Bus}
-use Rattle.record.specs.declared.Held.TheVariants as held
+use Rattle.record.specs.declared.BadRecord.TheVariants as bad
 use Rattle.record.specs.Record.{record_length, record_of, sound_bytes, held_by, machine_of, start_record}
 use Rattle.snapshot.specs.Kept.{snapshot_record}
 use Rattle.judgement.specs.declared.Refusal.{Refusal}
 use Rattle.judgement.specs.Refusals.{Cause, judged, judged_held, judge}
 use Rattle.judgement.specs.Judges.{above, start_causes, start_colour_causes, judge_start, wait_causes, judge_wait, port_causes, judge_port, no_causes, judge_state, told_causes, judge_told, read_causes, judge_read, write_causes, judge_write, load_causes, judge_load, ram_page_causes, judge_ram_page, block_causes, judge_block, shown_causes, judge_shown, still_causes, save_scr_causes, load_scr_causes, judge_still, judge_save_scr, judge_load_scr, load_sna_causes, judge_load_sna, save_sna_causes, judge_save_sna}
 use Rattle.judgement.specs.Order.{NoneHolds, FirstHolds, all_causes, document_order, numbers_of, stand_in, Ordered}
-use Rattle.judgement.proofs.Judging.{never}
 
 -- ---- any list of causes
 here : (c : Cause) (cs : List Cause) → c.holds ≡ true → FirstHolds (c ∷ cs) c.refusal
@@ -42,7 +41,7 @@ first_of c cs v e f false h q = later c cs e h (f q)
 -- a refusal is that of the first cause that holds
 pub refused_by_first_lem : (causes : List Cause) (bus : Bus) (e : Refusal) → judged causes bus ≡ Err e → FirstHolds causes e
 unfolding judged
-refused_by_first_lem [] bus e p = never e bus (sym p)
+refused_by_first_lem [] bus e p = cc
 refused_by_first_lem (c ∷ cs) bus e p = first_of c cs (judged cs bus) e (λ q. refused_by_first_lem cs bus e q) c.holds refl p
 
 -- causes that do not hold are passed over
@@ -61,7 +60,7 @@ first_refuses_lem causes bus e f =
 
 none_of : (c : Cause) (cs : List Cause) (v : Result Bus Refusal) (bus b : Bus) → (v ≡ Ok b → NoneHolds cs × (b ≡ bus)) → (t : Bool) → c.holds ≡ t
     → cond t (Err c.refusal) v ≡ Ok b → NoneHolds (c ∷ cs) × (b ≡ bus)
-none_of c cs v bus b f true h q = never c.refusal b q
+none_of c cs v bus b f true h q = cc
 none_of c cs v bus b f false h q = let r = f q in ((h, r.0), r.1)
 
 -- an accepted call has no cause that holds
@@ -78,8 +77,8 @@ none_accepts_lem (c ∷ cs) bus n = rw n.0 (none_accepts_lem cs bus n.1)
 
 -- ---- a whole judgement
 held_in_order : (l t : Bool) (bus : Bus) (causes : Bus → List Cause)
-    → judged_held (cond l (cond t (held.Sound bus) held.Unsound) held.WrongLength) causes
-    ≡ cond (not l) (judged_held held.WrongLength causes) (cond (not t) (judged_held held.Unsound causes) (judged (causes bus) bus))
+    → judged_held (cond l (cond t (Ok bus) (Err bad.Unsound)) (Err bad.WrongLength)) causes
+    ≡ cond (not l) (judged_held (Err bad.WrongLength) causes) (cond (not t) (judged_held (Err bad.Unsound) causes) (judged (causes bus) bus))
 held_in_order true true bus causes = refl
 held_in_order true false bus causes = refl
 held_in_order false t bus causes = refl

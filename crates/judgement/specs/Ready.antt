@@ -1,11 +1,10 @@
 -- What an accepted call may count on: the facts that its causes, all false, leave. One record of named facts for each judgement.
 -- Assumes nothing.
-use Rattle.std.specs.Prelude.{ℕ, ◌≤◌, ◌≡◌, Bool, true, false, List, length}
+use Rattle.std.specs.Prelude.{ℕ, ◌≤◌, ◌≡◌, Bool, true, false, List, length, Ok}
 use Rattle.machine.specs.declared.ZXMachine.{ZXMachine}
 use Rattle.machine.specs.Numbers.{specs_of}
 use Rattle.machine.specs.Limits.{picture_length, border_length, page_length, longest_wait}
 use Rattle.record.specs.declared.Bus.{Bus}
-use Rattle.record.specs.declared.Held.TheVariants as held
 use Rattle.record.specs.Record.{record_length, record_of, held_by, HasRoom, machine_of, start_record}
 use Rattle.record.specs.Sound.{Sound}
 use Rattle.memory.specs.Paging.{page_exists}
@@ -33,7 +32,7 @@ pub record ReadyStart (state ram a b border machine colour : ℕ) (bus : Bus) : 
 -- the lent record is sound, and is this one
 pub record OnRecord (state : List ℕ) (bus : Bus) : Type 0 where
   pub long : length state ≡ record_length
-  pub is_held : held_by state ≡ held.Sound bus
+  pub is_held : held_by state ≡ Ok bus
   pub decodes : record_of state ≡ bus
   pub sound : Sound bus
 

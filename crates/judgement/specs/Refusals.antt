@@ -2,8 +2,8 @@
 -- Assumes nothing.
 use Rattle.std.specs.Prelude.{ℕ, Bool, cond, List, [], ◌∷◌, Result, Ok, Err}
 use Rattle.record.specs.declared.Bus.{Bus}
-use Rattle.record.specs.declared.Held.{Held}
-use Rattle.record.specs.declared.Held.TheVariants as held
+use Rattle.record.specs.declared.BadRecord.{BadRecord}
+use Rattle.record.specs.declared.BadRecord.TheVariants as bad
 use Rattle.record.specs.Record.{held_by}
 use Rattle.judgement.specs.declared.Refusal.{Refusal}
 use Rattle.judgement.specs.declared.Refusal.TheVariants.{BadMachine, BadLength, Unsound, BadFlag, LongWait, FramesFull, BadPage, BadNumber, NoVideoPage, WrongSize, UnequalCopies}
@@ -43,10 +43,13 @@ in_turn c =
     ∷ cause NoVideoPage c.video ∷ cause BadNumber c.number ∷ cause WrongSize c.size ∷ []
 
 -- "Order: 1, record length, 3, other lengths, 4, 5, 6, 7, 8.": the record is judged before what depends on it
-abbrev pub judged_held : Held → (Bus → List Cause) → Result Bus Refusal
-judged_held held.WrongLength causes = Err BadLength
-judged_held held.Unsound causes = Err Unsound
-judged_held (held.Sound bus) causes = judged (causes bus) bus
+abbrev pub of_record : BadRecord → Refusal
+of_record bad.WrongLength = BadLength
+of_record bad.Unsound = Unsound
+
+abbrev pub judged_held : Result Bus BadRecord → (Bus → List Cause) → Result Bus Refusal
+judged_held (Err bad) causes = Err (of_record bad)
+judged_held (Ok bus) causes = judged (causes bus) bus
 
 abbrev pub judge : List ℕ → (Bus → List Cause) → Result Bus Refusal
 judge state causes = judged_held (held_by state) causes

@@ -3,14 +3,13 @@
 // Where its definitions stand: specs/Refusals.antt (numbers and order), specs/Judges.antt (each call's conditions), specs/Answers.antt (bytes).
 #![tactic(auto)]
 
-ghost use Rattle.std.specs.Prelude.{◌≡◌, ◌<◌, length, replicate};
-ghost use Rattle.record.specs.Record.{flag_byte};
-ghost use Rattle.judgement.specs.Refusals.{refusal_number, judged, in_turn};
+ghost use Rattle.std.specs.Prelude.{◌≡◌, ◌<◌, length};
+ghost use Rattle.judgement.specs.Refusals.{refusal_number, of_record, judged, in_turn};
 ghost use Rattle.judgement.specs.Judges.{number_fits, ram_fits, rom_fits, lent_fit, judge_wait, judge_port, judge_state, judge_told, judge_read, judge_write, judge_load, judge_ram_page, judge_block, judge_shown, judge_still, judge_save_scr, judge_load_scr, judge_save_sna, start_fits, frames_full, bad_page, no_video_page, screen_fits, wrong_size};
 ghost use Rattle.judgement.specs.Answers.{timed_length, timed_answer, number_length, number_answer, refused_answer};
 
 use machine::ZXMachine;
-use record::{Bus, Held};
+use record::{BadRecord, Bus};
 
 // Bytes of a timed call's answer, and of another call's with a number to give.
 pub const TIMED_LENGTH: usize = 10;
@@ -18,7 +17,7 @@ pub const TIMED_LENGTH: usize = 10;
 pub const NUMBER_LENGTH: usize = 5;
 
 // In the order of their numbers, so that a refusal's number is its place; the order of judging is that of `Causes`.
-#[derive(Clone, Copy)]
+#[derive(Clone, Copy, Debug, PartialEq, Eq)]
 pub enum Refusal {
     BadMachine,
     BadLength,
@@ -34,21 +33,35 @@ pub enum Refusal {
 }
 
 // A refusal's number.
-pub fn number(e: Refusal) -> u8
-    ensures { result ≡ refusal_number e }
-{
-    match e {
-        Refusal::BadMachine => 1,
-        Refusal::BadLength => 2,
-        Refusal::Unsound => 3,
-        Refusal::BadFlag => 4,
-        Refusal::LongWait => 5,
-        Refusal::FramesFull => 6,
-        Refusal::BadPage => 7,
-        Refusal::BadNumber => 8,
-        Refusal::NoVideoPage => 9,
-        Refusal::WrongSize => 10,
-        Refusal::UnequalCopies => 11,
+impl From<Refusal> for u8 {
+    ghost from_gives = { λ e n. n ≡ refusal_number e };
+
+    fn from(e: Refusal) -> u8 {
+        match e {
+            Refusal::BadMachine => 1,
+            Refusal::BadLength => 2,
+            Refusal::Unsound => 3,
+            Refusal::BadFlag => 4,
+            Refusal::LongWait => 5,
+            Refusal::FramesFull => 6,
+            Refusal::BadPage => 7,
+            Refusal::BadNumber => 8,
+            Refusal::NoVideoPage => 9,
+            Refusal::WrongSize => 10,
+            Refusal::UnequalCopies => 11,
+        }
+    }
+}
+
+// What refuses a slice that holds no sound record.
+impl From<BadRecord> for Refusal {
+    ghost from_gives = { λ bad e. e ≡ of_record bad };
+
+    fn from(bad: BadRecord) -> Refusal {
+        match bad {
+            BadRecord::WrongLength => Refusal::BadLength,
+            BadRecord::Unsound => Refusal::Unsound,
+        }
     }
 }
 
@@ -78,6 +91,7 @@ const NONE: Causes = Causes {
 };
 
 // The first cause that holds refuses.
+#[tactic(auto, unfolding(crate::specs::Refusals::judged))]
 fn first_cause(bus: Bus, causes: Causes) -> Result<Bus, Refusal>
     ensures { result ≡ judged (in_turn causes) bus }
 {
@@ -109,14 +123,11 @@ fn first_cause(bus: Bus, causes: Causes) -> Result<Bus, Refusal>
 }
 
 // The record is judged before what depends on it: its length, then its soundness.
+#[tactic(auto, unfolding(crate::specs::Judges::judge_state, crate::specs::Refusals::judged))]
 pub fn judge_state(state: &[u8]) -> Result<Bus, Refusal>
     ensures { result ≡ judge_state state.now }
 {
-    match record::look(state) {
-        Held::WrongLength => Err(Refusal::BadLength),
-        Held::Unsound => Err(Refusal::Unsound),
-        Held::Sound(bus) => Ok(bus),
-    }
+    Ok(record::look(state)?)
 }
 
 fn ram_fits(bus: Bus, ram: usize) -> bool
@@ -153,6 +164,7 @@ fn frames_full(bus: Bus) -> bool
 }
 
 // A slice is given by its length from here on, the state and the device record by their bytes.
+#[tactic(auto, unfolding(crate::specs::Judges::judge_wait, crate::specs::Refusals::judged))]
 pub fn judge_wait(
     state: &[u8],
     ram: usize,
@@ -164,7 +176,7 @@ pub fn judge_wait(
 ) -> Result<Bus, Refusal>
     ensures { result ≡ judge_wait state.now ram a b border clocks answer }
 {
-    let bus = judge_state(state)?;
+    let bus = record::look(state)?;
     let fit = lent_fit(bus, ram, a, b, border) & (answer == TIMED_LENGTH);
     let full = frames_full(bus);
     first_cause(
@@ -179,6 +191,7 @@ pub fn judge_wait(
 }
 
 // The flags are looked at only where the device record has its length.
+#[tactic(auto, unfolding(crate::specs::Judges::judge_port, crate::specs::Refusals::judged))]
 pub fn judge_port(
     state: &[u8],
     devices: &[u8],
@@ -190,7 +203,7 @@ pub fn judge_port(
 ) -> Result<Bus, Refusal>
     ensures { result ≡ judge_port state.now devices.now ram a b border answer }
 {
-    let bus = judge_state(state)?;
+    let bus = record::look(state)?;
     if devices.len() == ports::DEVICES_LENGTH {
         let fit = lent_fit(bus, ram, a, b, border) & (answer == TIMED_LENGTH);
         let flags = ports::flags(devices);
@@ -210,10 +223,11 @@ pub fn judge_port(
 }
 
 // The record, and a number to give.
+#[tactic(auto, unfolding(crate::specs::Judges::judge_told, crate::specs::Refusals::judged))]
 pub fn judge_told(state: &[u8], answer: usize) -> Result<Bus, Refusal>
     ensures { result ≡ judge_told state.now answer }
 {
-    let bus = judge_state(state)?;
+    let bus = record::look(state)?;
     first_cause(
         bus,
         Causes {
@@ -223,10 +237,11 @@ pub fn judge_told(state: &[u8], answer: usize) -> Result<Bus, Refusal>
     )
 }
 
+#[tactic(auto, unfolding(crate::specs::Judges::judge_read, crate::specs::Refusals::judged))]
 pub fn judge_read(state: &[u8], rom: usize, ram: usize, answer: usize) -> Result<Bus, Refusal>
     ensures { result ≡ judge_read state.now rom ram answer }
 {
-    let bus = judge_state(state)?;
+    let bus = record::look(state)?;
     let fit = rom_fits(bus, rom) & ram_fits(bus, ram) & (answer == NUMBER_LENGTH);
     first_cause(
         bus,
@@ -237,10 +252,11 @@ pub fn judge_read(state: &[u8], rom: usize, ram: usize, answer: usize) -> Result
     )
 }
 
+#[tactic(auto, unfolding(crate::specs::Judges::judge_write, crate::specs::Refusals::judged))]
 pub fn judge_write(state: &[u8], ram: usize) -> Result<Bus, Refusal>
     ensures { result ≡ judge_write state.now ram }
 {
-    let bus = judge_state(state)?;
+    let bus = record::look(state)?;
     let fit = ram_fits(bus, ram);
     first_cause(
         bus,
@@ -258,10 +274,11 @@ fn page_missing(bus: Bus, page: u32) -> bool
     !memory::page_exists(m, page)
 }
 
+#[tactic(auto, unfolding(crate::specs::Judges::judge_load, crate::specs::Refusals::judged))]
 pub fn judge_load(state: &[u8], ram: usize, bytes: usize, page: u32) -> Result<Bus, Refusal>
     ensures { result ≡ judge_load state.now ram bytes page }
 {
-    let bus = judge_state(state)?;
+    let bus = record::look(state)?;
     let fit = ram_fits(bus, ram) & (bytes == machine::PAGE_LENGTH);
     let missing = page_missing(bus, page);
     first_cause(
@@ -275,10 +292,11 @@ pub fn judge_load(state: &[u8], ram: usize, bytes: usize, page: u32) -> Result<B
 }
 
 // Of the three that hand back a part a Rattle caller lends no answer, and gives the length that fits.
+#[tactic(auto, unfolding(crate::specs::Judges::judge_ram_page, crate::specs::Refusals::judged))]
 pub fn judge_ram_page(state: &[u8], ram: usize, page: u32, answer: usize) -> Result<Bus, Refusal>
     ensures { result ≡ judge_ram_page state.now ram page (number_fits answer) }
 {
-    let bus = judge_state(state)?;
+    let bus = record::look(state)?;
     let fit = ram_fits(bus, ram) & (answer == NUMBER_LENGTH);
     let missing = page_missing(bus, page);
     first_cause(
@@ -291,10 +309,17 @@ pub fn judge_ram_page(state: &[u8], ram: usize, page: u32, answer: usize) -> Res
     )
 }
 
-pub fn judge_block(state: &[u8], rom: usize, ram: usize, block: u32, answer: usize) -> Result<Bus, Refusal>
+#[tactic(auto, unfolding(crate::specs::Judges::judge_block, crate::specs::Refusals::judged))]
+pub fn judge_block(
+    state: &[u8],
+    rom: usize,
+    ram: usize,
+    block: u32,
+    answer: usize,
+) -> Result<Bus, Refusal>
     ensures { result ≡ judge_block state.now rom ram block (number_fits answer) }
 {
-    let bus = judge_state(state)?;
+    let bus = record::look(state)?;
     let fit = rom_fits(bus, rom) & ram_fits(bus, ram) & (answer == NUMBER_LENGTH);
     first_cause(
         bus,
@@ -306,10 +331,11 @@ pub fn judge_block(state: &[u8], rom: usize, ram: usize, block: u32, answer: usi
     )
 }
 
+#[tactic(auto, unfolding(crate::specs::Judges::judge_shown, crate::specs::Refusals::judged))]
 pub fn judge_shown(state: &[u8], a: usize, b: usize, answer: usize) -> Result<Bus, Refusal>
     ensures { result ≡ judge_shown state.now a b (number_fits answer) }
 {
-    let bus = judge_state(state)?;
+    let bus = record::look(state)?;
     let fit = (a == machine::PICTURE_LENGTH)
         & (b == machine::PICTURE_LENGTH)
         & (answer == NUMBER_LENGTH);
@@ -322,10 +348,11 @@ pub fn judge_shown(state: &[u8], a: usize, b: usize, answer: usize) -> Result<Bu
     )
 }
 
+#[tactic(auto, unfolding(crate::specs::Judges::judge_still, crate::specs::Refusals::judged))]
 pub fn judge_still(state: &[u8], ram: usize, picture: usize, flash: u32) -> Result<Bus, Refusal>
     ensures { result ≡ judge_still state.now ram picture flash }
 {
-    let bus = judge_state(state)?;
+    let bus = record::look(state)?;
     let fit = ram_fits(bus, ram) & (picture == machine::PICTURE_LENGTH);
     first_cause(
         bus,
@@ -345,10 +372,11 @@ fn screen_fits(bus: Bus, ram: usize, file: usize) -> bool
 }
 
 // The shown page is always a video page, so that saving judges none.
+#[tactic(auto, unfolding(crate::specs::Judges::judge_save_scr, crate::specs::Refusals::judged))]
 pub fn judge_save_scr(state: &[u8], ram: usize, file: usize) -> Result<Bus, Refusal>
     ensures { result ≡ judge_save_scr state.now ram file }
 {
-    let bus = judge_state(state)?;
+    let bus = record::look(state)?;
     let fit = screen_fits(bus, ram, file);
     first_cause(
         bus,
@@ -367,10 +395,11 @@ fn no_video_page(bus: Bus, page: u32) -> bool
     !memory::is_video_page(m, page)
 }
 
+#[tactic(auto, unfolding(crate::specs::Judges::judge_load_scr, crate::specs::Refusals::judged))]
 pub fn judge_load_scr(state: &[u8], ram: usize, file: usize, page: u32) -> Result<Bus, Refusal>
     ensures { result ≡ judge_load_scr state.now ram file page }
 {
-    let bus = judge_state(state)?;
+    let bus = record::look(state)?;
     let fit = screen_fits(bus, ram, file);
     let missing = page_missing(bus, page);
     let unshown = no_video_page(bus, page);
@@ -394,10 +423,16 @@ fn wrong_size(bus: Bus, file: usize) -> bool
     !(file == due)
 }
 
-pub fn judge_save_sna(state: &[u8], ram: usize, file: usize, registers: usize) -> Result<Bus, Refusal>
+#[tactic(auto, unfolding(crate::specs::Judges::judge_save_sna, crate::specs::Refusals::judged))]
+pub fn judge_save_sna(
+    state: &[u8],
+    ram: usize,
+    file: usize,
+    registers: usize,
+) -> Result<Bus, Refusal>
     ensures { result ≡ judge_save_sna state.now ram file registers }
 {
-    let bus = judge_state(state)?;
+    let bus = record::look(state)?;
     let fit = ram_fits(bus, ram) & (registers == snapshot::REGISTERS_LENGTH);
     let wrong = wrong_size(bus, file);
     first_cause(
@@ -422,35 +457,18 @@ pub fn start_fits(m: ZXMachine, state: usize, ram: usize, a: usize, b: usize, bo
         & (border == machine::BORDER_LENGTH)
 }
 
-// Zeros throughout.
-pub fn clear(bytes: &mut [u8])
-    ensures { bytes.new ≡ replicate (length bytes.old) 0 }
-{
-    let mut i = 0;
-    while i < bytes.len() {
-        bytes[i] = 0;
-        i += 1;
-    }
-}
-
 // A refused call: its answer of `size` bytes holds the number and then zeros, and is left alone where its length is wrong.
+#[tactic(auto, using(crate::proofs::Zeros::headed), unfolding(crate::specs::Answers::refused_answer))]
 pub fn refuse(answer: &mut [u8], size: usize, e: Refusal) -> u8
     requires { 0 < size }
     ensures { (result ≡ refusal_number e) × (answer.new ≡ refused_answer size (refusal_number e) answer.old) }
 {
-    let n = number(e);
+    let n = u8::from(e);
     if answer.len() == size {
-        clear(answer);
+        answer.fill(0);
         answer[0] = n;
     }
     n
-}
-
-// A flag as a byte.
-pub fn flag(t: bool) -> u8
-    ensures { result ≡ flag_byte t }
-{
-    if t { 1 } else { 0 }
 }
 
 // The answer of an accepted timed call.
@@ -465,13 +483,11 @@ pub fn fill_timed(
     requires { length answer.old ≡ timed_length }
     ensures { answer.new ≡ timed_answer value closed interrupt clocks blocks }
 {
-    let c = flag(closed);
-    let i = flag(interrupt);
     answer.copy_from_slice(&[
         0,
         value,
-        c,
-        i,
+        u8::from(closed),
+        u8::from(interrupt),
         (clocks % 256) as u8,
         (clocks / 256 % 256) as u8,
         (clocks / 256 / 256 % 256) as u8,

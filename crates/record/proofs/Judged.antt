@@ -8,12 +8,13 @@ use native.Mathlib.Omega.{arith}
 use borrow.Author.Tests.{lt-ltb, le-leb, eq-eqb, ne_eqb, eqb-true, eqb-false}
 use lib.Dec.{ltb, eqb}
 use lib.ListN.{length}
+use Rattle.std.specs.Prelude.{Ok, Err}
 use Rattle.machine.specs.declared.ZXMachine.{ZXMachine}
 use Rattle.machine.specs.declared.ZXSpecs.{ZXSpecs}
 use Rattle.machine.specs.Numbers.{specs_of}
 use Rattle.machine.specs.Timing.{frame_end}
 use Rattle.record.specs.declared.Bus.{Bus}
-use Rattle.record.specs.declared.Held.TheVariants.{WrongLength, Unsound, Sound}
+use Rattle.record.specs.declared.BadRecord.TheVariants.{WrongLength, Unsound}
 use Rattle.record.specs.Words.{byte_at, word_at, long_at}
 use Rattle.record.specs.Record.{last_frame, machine_of, machine_at, clock_at, passed_at, phase_at, painted_at, paging_at, reported_at, beam_colour_at, blocked_at, pairs_at, in_range, clock_in_frame, painted_in_place, pairs_in_place, blocked_at_end, paging_allowed, sound_bus, marked, codes_in_range, record_of, sound_bytes, held_by, record_length}
 
@@ -85,19 +86,19 @@ module _ (b : Bus) (s : ZXSpecs) (r a : Bool) (hs : s ≡ specs_of b.machine) (h
       fails (in_range b) (clock_in_frame b) (painted_in_place b) (pairs_in_place b) (blocked_at_end b) (paging_allowed b.machine b.paging) (rw (hr, hs, ha) at t)
 
 module _ (s : List ℕ) (l : length s ≡ record_length) (d : Bool) (hd : d ≡ (marked s && codes_in_range s)) where
-  pub held_uncoded : d ≡ false → Unsound ≡ held_by s
+  pub held_uncoded : d ≡ false → Err Unsound ≡ held_by s
   unfolding held_by sound_bytes
   held_uncoded e = rw (eq-eqb (length s) record_length l, ← hd, e)
 
   module _ (b : Bus) (t : Bool) (hb : b ≡ record_of s) (ht : t ≡ sound_bus b) where
-    pub held_sound : d ≡ true → t ≡ true → Sound b ≡ held_by s
+    pub held_sound : d ≡ true → t ≡ true → Ok b ≡ held_by s
     unfolding held_by sound_bytes
     held_sound e f = rw (eq-eqb (length s) record_length l, ← hd, e, ← hb, ← ht, f)
 
-    pub held_unsound : d ≡ true → t ≡ false → Unsound ≡ held_by s
+    pub held_unsound : d ≡ true → t ≡ false → Err Unsound ≡ held_by s
     unfolding held_by sound_bytes
     held_unsound e f = rw (eq-eqb (length s) record_length l, ← hd, e, ← hb, ← ht, f)
 
-pub held_wrong : (s : List ℕ) → (length s ≡ record_length → ⊥) → WrongLength ≡ held_by s
+pub held_wrong : (s : List ℕ) → (length s ≡ record_length → ⊥) → Err WrongLength ≡ held_by s
 unfolding held_by
 held_wrong s n = rw (ne_eqb (length s) record_length n)

@@ -9,6 +9,7 @@ use native.Mathlib.Omega.{arith}
 use borrow.Author.Tests.{ltb-true, eqb-true}
 use lib.Dec.{eqb, ltb}
 use lib.ListN.{length, replicate}
+use Rattle.std.specs.Prelude.{Ok, Err}
 use Rattle.laws.proofs.Cases.{and_left, and_right}
 use Rattle.laws.proofs.Conjunction.{each}
 use Rattle.laws.proofs.Spelled.{elements, spelled}
@@ -20,7 +21,7 @@ use Rattle.machine.proofs.Numbered.{regular}
 use Rattle.machine.proofs.Bounds.{position_small}
 use Rattle.machine.proofs.Rising.{border_small}
 use Rattle.record.specs.declared.Bus.{Bus}
-use Rattle.record.specs.declared.Held.TheVariants as held
+use Rattle.record.specs.declared.BadRecord.TheVariants.{WrongLength, Unsound}
 use Rattle.record.specs.Words.{byte_at, word_at, long_at, Bytes}
 use Rattle.record.specs.Record.{machine_number, machine_of, flag_byte, record_bytes, record_length, advanced, record_of, version_at, machine_at, clock_at, passed_at, painted_at, blocked_at, pairs_at, marked, codes_in_range, sound_bus, sound_bytes, held_by, fresh_record, start_record}
 use Rattle.record.specs.Sound.{Sound}
@@ -98,7 +99,7 @@ unfolding sound_bytes
 sound_encode b f = rw (machine_small b.machine, flag_small b.blocked) (ap sound_bus (decode_encode b f))
 
 -- The bytes of a sound record are held as that record.
-pub held_encode : (b : Bus) → sound_bus b ≡ true → held_by (record_bytes b) ≡ held.Sound b
+pub held_encode : (b : Bus) → sound_bus b ≡ true → held_by (record_bytes b) ≡ Ok b
 unfolding held_by
 held_encode b t =
     rw (sound_encode b (sound_fits b (sound_facts b t)), t, decode_encode_sound b t)
@@ -198,27 +199,27 @@ encode_decode s l h t =
     ) in
     same ∙ spelled record_length s l
 
-held_if : (l t : Bool) (a b : Bus) → cond l (cond t (held.Sound a) held.Unsound) held.WrongLength ≡ held.Sound b → (l ≡ true) × (t ≡ true) × (a ≡ b)
+held_if : (l t : Bool) (a b : Bus) → cond l (cond t (Ok a) (Err Unsound)) (Err WrongLength) ≡ Ok b → (l ≡ true) × (t ≡ true) × (a ≡ b)
 held_if true true a b e = (refl, refl, cc)
 held_if true false a b e = let z : ◌≡◌ {A = ℕ} 0 1 = cc in absurd (omega (arith, z))
 held_if false t a b e = let z : ◌≡◌ {A = ℕ} 0 1 = cc in absurd (omega (arith, z))
 
 -- What a slice is held as: the record that its 23 sound bytes stand for, and no other.
-pub held_decode : (s : List ℕ) (b : Bus) → held_by s ≡ held.Sound b → (length s ≡ record_length) × (sound_bytes s ≡ true) × (record_of s ≡ b)
+pub held_decode : (s : List ℕ) (b : Bus) → held_by s ≡ Ok b → (length s ≡ record_length) × (sound_bytes s ≡ true) × (record_of s ≡ b)
 unfolding held_by
 held_decode s b e =
     let h = held_if (eqb (length s) record_length) (sound_bytes s) (record_of s) b e in
     (eqb-true (length s) record_length h.0, h.1, h.2)
 
 -- A record that is held is sound.
-pub held_sound : (s : List ℕ) (b : Bus) → held_by s ≡ held.Sound b → sound_bus b ≡ true
+pub held_sound : (s : List ℕ) (b : Bus) → held_by s ≡ Ok b → sound_bus b ≡ true
 unfolding sound_bytes
 held_sound s b e =
     let h = held_decode s b e in
     ap sound_bus (sym h.2) ∙ and_right (marked s && codes_in_range s) (sound_bus (record_of s)) h.1
 
 -- A slice that is held as a record is that record's bytes.
-pub held_bytes : (s : List ℕ) (b : Bus) → Bytes s → held_by s ≡ held.Sound b → record_bytes b ≡ s
+pub held_bytes : (s : List ℕ) (b : Bus) → Bytes s → held_by s ≡ Ok b → record_bytes b ≡ s
 held_bytes s b h e =
     let d = held_decode s b e in
     ap record_bytes (sym d.2) ∙ encode_decode s d.0 h d.1
@@ -230,10 +231,10 @@ start_bytes m colour = refl
 
 -- A fresh record that is written is held as that record; so is a start's.
 pub fresh_held : (m : ZXMachine) (paging reported colour : ℕ) → Sound (fresh_record m paging reported colour)
-    → held_by (record_bytes (fresh_record m paging reported colour)) ≡ held.Sound (fresh_record m paging reported colour)
+    → held_by (record_bytes (fresh_record m paging reported colour)) ≡ Ok (fresh_record m paging reported colour)
 fresh_held m paging reported colour f = held_encode (fresh_record m paging reported colour) (facts_sound (fresh_record m paging reported colour) f)
 
-pub start_held : (m : ZXMachine) (colour : ℕ) → colour < 8 → held_by (record_bytes (start_record m colour)) ≡ held.Sound (start_record m colour)
+pub start_held : (m : ZXMachine) (colour : ℕ) → colour < 8 → held_by (record_bytes (start_record m colour)) ≡ Ok (start_record m colour)
 start_held m colour h = held_encode (start_record m colour) (start_sound m colour h)
 
 -- ---- the bytes of a record that has moved on

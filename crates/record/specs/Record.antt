@@ -1,14 +1,14 @@
 -- Document 01, "Lent memory", second paragraph: the 23 bytes of the state record, what they stand for, and when they are sound.
 -- Assumes nothing.
-use Rattle.std.specs.Prelude.{ℕ, ◌+◌, ◌/◌, ◌<◌, List, [], ◌∷◌, ◌++◌, Bool, true, false, cond, not, ◌&&◌, ◌||◌, length, eqb, leb, ltb}
+use Rattle.std.specs.Prelude.{ℕ, ◌+◌, ◌/◌, ◌<◌, List, [], ◌∷◌, ◌++◌, Bool, true, false, cond, not, ◌&&◌, ◌||◌, length, eqb, leb, ltb, Result, Ok, Err}
 use Rattle.std.proofs.lemmas.List.Edits.{sets}
 use Rattle.machine.specs.declared.ZXMachine.{ZXMachine}
 use Rattle.machine.specs.declared.ZXMachine.TheVariants.{Sinclair48K, Sinclair128K}
 use Rattle.machine.specs.Numbers.{specs_of}
 use Rattle.machine.specs.Timing.{block_position, border_position, frame_end}
 use Rattle.record.specs.declared.Bus.{Bus}
-use Rattle.record.specs.declared.Held.{Held}
-use Rattle.record.specs.declared.Held.TheVariants.{WrongLength, Unsound, Sound}
+use Rattle.record.specs.declared.BadRecord.{BadRecord}
+use Rattle.record.specs.declared.BadRecord.TheVariants.{WrongLength, Unsound}
 use Rattle.record.specs.Words.{bytes16, bytes32, byte_at, word_at, long_at}
 
 -- "`ULB`; version 1 (16 bits)"
@@ -156,8 +156,8 @@ unfoldable pub sound_bytes : List ℕ → Bool
 sound_bytes s = marked s && codes_in_range s && sound_bus (record_of s)
 
 -- what a lent slice holds; by document 01's order of refusals its length is judged first
-unfoldable pub held_by : List ℕ → Held
-held_by s = cond (eqb (length s) record_length) (cond (sound_bytes s) (Sound (record_of s)) Unsound) WrongLength
+unfoldable pub held_by : List ℕ → Result Bus BadRecord
+held_by s = cond (eqb (length s) record_length) (cond (sound_bytes s) (Ok (record_of s)) (Err Unsound)) (Err WrongLength)
 
 -- A fresh record: zeros but for mark, version and machine, and for what is handed in: the 7FFD byte, the reported border and the beam's colour. An import
 -- writes "a fresh record with border, paging and lock" (02, Q-4).

@@ -34,12 +34,11 @@ pub struct Bus {
     pub blocked: bool,
 }
 
-// What a lent slice holds.
-#[derive(Clone, Copy)]
-pub enum Held {
+// Why a lent slice holds no record.
+#[derive(Clone, Copy, Debug, PartialEq, Eq)]
+pub enum BadRecord {
     WrongLength,
     Unsound,
-    Sound(Bus),
 }
 
 // Where each field starts in the bytes.
@@ -255,22 +254,22 @@ fn sound_bus(b: Bus) -> bool
 }
 
 // What a lent slice holds.
-pub fn look(s: &[u8]) -> Held
+pub fn look(s: &[u8]) -> Result<Bus, BadRecord>
     ensures { result ≡ held_by s.now }
 {
     if s.len() == LENGTH {
         if coded(s) {
             let b = decode(s);
             if sound_bus(b) {
-                Held::Sound(b)
+                Ok(b)
             } else {
-                Held::Unsound
+                Err(BadRecord::Unsound)
             }
         } else {
-            Held::Unsound
+            Err(BadRecord::Unsound)
         }
     } else {
-        Held::WrongLength
+        Err(BadRecord::WrongLength)
     }
 }
 

@@ -5,10 +5,10 @@ use mathlib.Core.Path.{◌≡◌, refl, ap, subst}
 use mathlib.Core.List.{List}
 use lib.ListN.{length}
 use borrow.Author.Tests.{eq-eqb}
+use Rattle.std.specs.Prelude.{Ok}
 use Rattle.machine.specs.declared.ZXMachine as ours
 use Rattle.machine.specs.Numbers.{specs_of}
 use Rattle.record.specs.declared.Bus.{Bus}
-use Rattle.record.specs.declared.Held.TheVariants as held
 use Rattle.record.specs.Record.{held_by}
 use Rattle.record.proofs.Soundness.{sound_facts}
 use Rattle.record.proofs.Round.{held_sound}
@@ -61,7 +61,7 @@ module _ (n : ℕ) (answer : List ℕ) (long : length answer ≡ 5) where
   from_bits_same = rw (from_bits_is n, by_coloured (color.from_bits n)) (helped_same (colour_helped (color.from_bits n)) answer long)
 
 -- EVERY ACCEPTED CALL HAS A STATE OF THE RUST TO BE COMPARED WITH: the slices of any sound record, with RAM and ROM of the machine's lengths.
-pub some_lent : (bus : Bus) (l : Lent) (rom : List ℕ) → held_by l.state ≡ held.Sound bus → length l.ram ≡ (specs_of bus.machine).ram
+pub some_lent : (bus : Bus) (l : Lent) (rom : List ℕ) → held_by l.state ≡ Ok bus → length l.ram ≡ (specs_of bus.machine).ram
     → length rom ≡ (specs_of bus.machine).rom → (c : ZXController) × SameLent rom c l
 some_lent bus l rom h ram_long_lem rom_long_lem =
     let w = lent_world bus l in

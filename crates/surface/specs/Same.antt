@@ -1,9 +1,8 @@
 -- When a call of the C surface and a call of the Rust are the same: what the slices hold at exit is what the Rust holds, and the answer's bytes
 -- are what the Rust answers and how its state moved.
 -- Assumes nothing.
-use Rattle.std.specs.Prelude.{ℕ, ◌≡◌, Bool, List, [], ◌∷◌, length, take, drop}
+use Rattle.std.specs.Prelude.{ℕ, ◌≡◌, Bool, List, [], ◌∷◌, length, take, drop, Ok}
 use Rattle.record.specs.declared.Bus.{Bus}
-use Rattle.record.specs.declared.Held.TheVariants as held
 use Rattle.record.specs.Words.{long_at}
 use Rattle.record.specs.Record.{machine_number, held_by}
 use Rattle.record.specs.Sound.{Sound}
@@ -23,7 +22,7 @@ use Rattle.rustzx.specs.Calls.{Call, Given, performed, TimedByRust}
 -- the Rust holds. Each theorem on a call asks this of what is lent; a start brings it about, and every accepted call leaves it.
 pub record SameLent (rom : List ℕ) (c : ZXController) (l : Lent) : Type 0 where
   pub bus : Bus
-  pub is_held : held_by l.state ≡ held.Sound bus
+  pub is_held : held_by l.state ≡ Ok bus
   pub machine : our_machine c.machine ≡ bus.machine
   pub related : Related c.machine rom c (lent_world bus l)
 
