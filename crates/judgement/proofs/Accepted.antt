@@ -16,7 +16,6 @@ use Rattle.machine.specs.Numbers.{specs_of}
 use Rattle.machine.specs.Limits.{picture_length, border_length, page_length, longest_wait}
 use Rattle.record.specs.declared.Bus.{Bus}
 use Rattle.record.specs.declared.BadRecord.{BadRecord}
-use Rattle.record.specs.declared.BadRecord.TheVariants as bad
 use Rattle.record.specs.Record.{record_length, machine_of, record_bytes, held_by, last_frame, no_room, HasRoom}
 use Rattle.record.proofs.Soundness.{sound_facts}
 use Rattle.record.specs.Words.{Bytes}

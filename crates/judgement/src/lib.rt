@@ -3,10 +3,10 @@
 // Where its definitions stand: specs/Refusals.antt (numbers and order), specs/Judges.antt (each call's conditions), specs/Answers.antt (bytes).
 #![tactic(auto)]
 
-ghost use Rattle.std.specs.Prelude.{◌≡◌, ◌<◌, length};
+ghost use Rattle.std.specs.Prelude.{◌≡◌, ◌<◌, length, IfOk};
 ghost use Rattle.judgement.specs.Refusals.{refusal_number, of_record, judged, in_turn};
-ghost use Rattle.judgement.specs.Judges.{number_fits, ram_fits, rom_fits, lent_fit, judge_wait, judge_port, judge_state, judge_told, judge_read, judge_write, judge_load, judge_ram_page, judge_block, judge_shown, judge_still, judge_save_scr, judge_load_scr, judge_save_sna, start_fits, frames_full, bad_page, no_video_page, screen_fits, wrong_size};
-ghost use Rattle.judgement.specs.Answers.{timed_length, timed_answer, number_length, number_answer, refused_answer};
+ghost use Rattle.judgement.specs.Judges.{number_fits, ram_fits, rom_fits, lent_fit, judge_wait, judge_port, judge_state, judge_told, judge_read, judge_write, judge_load, judge_ram_page, judge_block, judge_shown, judge_still, judge_save_scr, judge_load_scr, judge_save_sna, start_fits, frames_full, bad_page, screen_fits};
+ghost use Rattle.judgement.specs.Answers.{timed_length, timed_answer, number_length, number_answer, refused_answer, told_code, told_answer};
 
 use machine::ZXMachine;
 use record::{BadRecord, Bus};
@@ -66,7 +66,8 @@ impl From<BadRecord> for Refusal {
 }
 
 // The causes behind the record, each by whether it holds, in their order: "other lengths, 4, 5, 6, 7, 8", 9 "after 7", and 10 behind them.
-#[derive(Clone, Copy)]
+// A call names the causes that are its own; no other holds.
+#[derive(Clone, Copy, Default)]
 struct Causes {
     length: bool,
     flag: bool,
@@ -77,18 +78,6 @@ struct Causes {
     number: bool,
     size: bool,
 }
-
-// A call names the causes that are its own; no other holds.
-const NONE: Causes = Causes {
-    length: false,
-    flag: false,
-    wait: false,
-    frames: false,
-    page: false,
-    video: false,
-    number: false,
-    size: false,
-};
 
 // The first cause that holds refuses.
 #[tactic(auto, unfolding(crate::specs::Refusals::judged))]
@@ -133,17 +122,13 @@ pub fn judge_state(state: &[u8]) -> Result<Bus, Refusal>
 fn ram_fits(bus: Bus, ram: usize) -> bool
     ensures { result ≡ ram_fits bus ram }
 {
-    let m = bus.machine;
-    let specs = m.specs();
-    ram == specs.ram
+    ram == bus.machine.specs().ram
 }
 
 fn rom_fits(bus: Bus, rom: usize) -> bool
     ensures { result ≡ rom_fits bus rom }
 {
-    let m = bus.machine;
-    let specs = m.specs();
-    rom == specs.rom
+    rom == bus.machine.specs().rom
 }
 
 // The slices of a timed call.
@@ -178,14 +163,13 @@ pub fn judge_wait(
 {
     let bus = record::look(state)?;
     let fit = lent_fit(bus, ram, a, b, border) & (answer == TIMED_LENGTH);
-    let full = frames_full(bus);
     first_cause(
         bus,
         Causes {
             length: !fit,
             wait: machine::LONGEST_WAIT < clocks,
-            frames: full,
-            ..NONE
+            frames: frames_full(bus),
+            ..Causes::default()
         },
     )
 }
@@ -206,15 +190,13 @@ pub fn judge_port(
     let bus = record::look(state)?;
     if devices.len() == ports::DEVICES_LENGTH {
         let fit = lent_fit(bus, ram, a, b, border) & (answer == TIMED_LENGTH);
-        let flags = ports::flags(devices);
-        let full = frames_full(bus);
         first_cause(
             bus,
             Causes {
                 length: !fit,
-                flag: !flags,
-                frames: full,
-                ..NONE
+                flag: !ports::flags(devices),
+                frames: frames_full(bus),
+                ..Causes::default()
             },
         )
     } else {
@@ -231,8 +213,8 @@ pub fn judge_told(state: &[u8], answer: usize) -> Result<Bus, Refusal>
     first_cause(
         bus,
         Causes {
-            length: !(answer == NUMBER_LENGTH),
-            ..NONE
+            length: answer != NUMBER_LENGTH,
+            ..Causes::default()
         },
     )
 }
@@ -247,7 +229,7 @@ pub fn judge_read(state: &[u8], rom: usize, ram: usize, answer: usize) -> Result
         bus,
         Causes {
             length: !fit,
-            ..NONE
+            ..Causes::default()
         },
     )
 }
@@ -257,12 +239,11 @@ pub fn judge_write(state: &[u8], ram: usize) -> Result<Bus, Refusal>
     ensures { result ≡ judge_write state.now ram }
 {
     let bus = record::look(state)?;
-    let fit = ram_fits(bus, ram);
     first_cause(
         bus,
         Causes {
-            length: !fit,
-            ..NONE
+            length: !ram_fits(bus, ram),
+            ..Causes::default()
         },
     )
 }
@@ -270,8 +251,7 @@ pub fn judge_write(state: &[u8], ram: usize) -> Result<Bus, Refusal>
 fn page_missing(bus: Bus, page: u32) -> bool
     ensures { result ≡ (bad_page bus page).holds }
 {
-    let m = bus.machine;
-    !memory::page_exists(m, page)
+    !memory::page_exists(bus.machine, page)
 }
 
 #[tactic(auto, unfolding(crate::specs::Judges::judge_load, crate::specs::Refusals::judged))]
@@ -280,13 +260,12 @@ pub fn judge_load(state: &[u8], ram: usize, bytes: usize, page: u32) -> Result<B
 {
     let bus = record::look(state)?;
     let fit = ram_fits(bus, ram) & (bytes == machine::PAGE_LENGTH);
-    let missing = page_missing(bus, page);
     first_cause(
         bus,
         Causes {
             length: !fit,
-            page: missing,
-            ..NONE
+            page: page_missing(bus, page),
+            ..Causes::default()
         },
     )
 }
@@ -298,13 +277,12 @@ pub fn judge_ram_page(state: &[u8], ram: usize, page: u32, answer: usize) -> Res
 {
     let bus = record::look(state)?;
     let fit = ram_fits(bus, ram) & (answer == NUMBER_LENGTH);
-    let missing = page_missing(bus, page);
     first_cause(
         bus,
         Causes {
             length: !fit,
-            page: missing,
-            ..NONE
+            page: page_missing(bus, page),
+            ..Causes::default()
         },
     )
 }
@@ -326,7 +304,7 @@ pub fn judge_block(
         Causes {
             length: !fit,
             number: 3 < block,
-            ..NONE
+            ..Causes::default()
         },
     )
 }
@@ -343,7 +321,7 @@ pub fn judge_shown(state: &[u8], a: usize, b: usize, answer: usize) -> Result<Bu
         bus,
         Causes {
             length: !fit,
-            ..NONE
+            ..Causes::default()
         },
     )
 }
@@ -359,7 +337,7 @@ pub fn judge_still(state: &[u8], ram: usize, picture: usize, flash: u32) -> Resu
         Causes {
             length: !fit,
             number: 1 < flash,
-            ..NONE
+            ..Causes::default()
         },
     )
 }
@@ -377,22 +355,13 @@ pub fn judge_save_scr(state: &[u8], ram: usize, file: usize) -> Result<Bus, Refu
     ensures { result ≡ judge_save_scr state.now ram file }
 {
     let bus = record::look(state)?;
-    let fit = screen_fits(bus, ram, file);
     first_cause(
         bus,
         Causes {
-            length: !fit,
-            ..NONE
+            length: !screen_fits(bus, ram, file),
+            ..Causes::default()
         },
     )
-}
-
-// No page of the machine that its screen may show.
-fn no_video_page(bus: Bus, page: u32) -> bool
-    ensures { result ≡ (no_video_page bus page).holds }
-{
-    let m = bus.machine;
-    !memory::is_video_page(m, page)
 }
 
 #[tactic(auto, unfolding(crate::specs::Judges::judge_load_scr, crate::specs::Refusals::judged))]
@@ -400,27 +369,15 @@ pub fn judge_load_scr(state: &[u8], ram: usize, file: usize, page: u32) -> Resul
     ensures { result ≡ judge_load_scr state.now ram file page }
 {
     let bus = record::look(state)?;
-    let fit = screen_fits(bus, ram, file);
-    let missing = page_missing(bus, page);
-    let unshown = no_video_page(bus, page);
     first_cause(
         bus,
         Causes {
-            length: !fit,
-            page: missing,
-            video: unshown,
-            ..NONE
+            length: !screen_fits(bus, ram, file),
+            page: page_missing(bus, page),
+            video: !memory::is_video_page(bus.machine, page),
+            ..Causes::default()
         },
     )
-}
-
-// A snapshot's size is not the one that is due.
-fn wrong_size(bus: Bus, file: usize) -> bool
-    ensures { result ≡ (wrong_size bus.machine bus.paging file).holds }
-{
-    let m = bus.machine;
-    let due = snapshot::due_size(m, bus.paging);
-    !(file == due)
 }
 
 #[tactic(auto, unfolding(crate::specs::Judges::judge_save_sna, crate::specs::Refusals::judged))]
@@ -434,13 +391,13 @@ pub fn judge_save_sna(
 {
     let bus = record::look(state)?;
     let fit = ram_fits(bus, ram) & (registers == snapshot::REGISTERS_LENGTH);
-    let wrong = wrong_size(bus, file);
+    let due = snapshot::due_size(bus.machine, bus.paging);
     first_cause(
         bus,
         Causes {
             length: !fit,
-            size: wrong,
-            ..NONE
+            size: file != due,
+            ..Causes::default()
         },
     )
 }
@@ -483,18 +440,10 @@ pub fn fill_timed(
     requires { length answer.old ≡ timed_length }
     ensures { answer.new ≡ timed_answer value closed interrupt clocks blocks }
 {
-    answer.copy_from_slice(&[
-        0,
-        value,
-        u8::from(closed),
-        u8::from(interrupt),
-        (clocks % 256) as u8,
-        (clocks / 256 % 256) as u8,
-        (clocks / 256 / 256 % 256) as u8,
-        (clocks / 256 / 256 / 256 % 256) as u8,
-        (blocks % 256) as u8,
-        (blocks / 256 % 256) as u8,
-    ]);
+    let [c0, c1, c2, c3] = clocks.to_le_bytes();
+    let [b0, b1, ..] = blocks.to_le_bytes();
+    let (closed, interrupt) = (u8::from(closed), u8::from(interrupt));
+    answer.copy_from_slice(&[0, value, closed, interrupt, c0, c1, c2, c3, b0, b1]);
 }
 
 // The answer of another accepted call with a number to give.
@@ -502,11 +451,21 @@ pub fn fill_number(answer: &mut [u8], n: u32)
     requires { length answer.old ≡ number_length }
     ensures { answer.new ≡ number_answer n }
 {
-    answer.copy_from_slice(&[
-        0,
-        (n % 256) as u8,
-        (n / 256 % 256) as u8,
-        (n / 256 / 256 % 256) as u8,
-        (n / 256 / 256 / 256 % 256) as u8,
-    ]);
+    let [n0, n1, n2, n3] = n.to_le_bytes();
+    answer.copy_from_slice(&[0, n0, n1, n2, n3]);
+}
+
+// The end of a call with a number to give: its answer, and what it returns.
+pub fn tell(answer: &mut [u8], number: Result<u32, Refusal>) -> u8
+    requires { IfOk number (λ n. length answer.old ≡ number_length) }
+    ensures code { result ≡ told_code number }
+    ensures answer { answer.new ≡ told_answer number answer.old }
+{
+    match number {
+        Err(e) => refuse(answer, NUMBER_LENGTH, e),
+        Ok(n) => {
+            fill_number(answer, n);
+            0
+        }
+    }
 }
