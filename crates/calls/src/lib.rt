@@ -14,25 +14,17 @@ ghost use Rattle.bus.specs.Clocks.{first_clocks, part_clocks, inked_at_clock, at
 ghost use Rattle.steps.specs.Turned.{turn_of, core_of, Ready};
 ghost use Rattle.calls.specs.Paged.{paged_write};
 
-use border::Beam;
 use machine::ZXMachine;
 use memory::Place;
 use ports::{Answer, Devices, FloatingAddress, Written};
 use record::Bus;
 use steps::Turning;
 
-// A port read under way: its value was taken before the final step.
+// A port call under way, with what it answers: the value of a read, taken before the final step, or the code of a write.
 #[derive(Clone, Copy)]
-pub struct ReadTurn {
+pub struct Answered {
     pub turn: Turning,
     pub value: u8,
-}
-
-// A write under way, with its code.
-#[derive(Clone, Copy)]
-pub struct WriteTurn {
-    pub turn: Turning,
-    pub code: u8,
 }
 
 // The byte at an address of the picture, which is never in ROM, so that none is lent.
@@ -40,8 +32,7 @@ fn picture_byte(m: ZXMachine, paging: u8, ram: &[u8], addr: u16) -> u8
     requires { length ram.now ≡ (specs_of m).ram }
     ensures { result ≡ peeked m paging [] ram.now addr }
 {
-    let place = memory::place_of(m, paging, addr);
-    match place {
+    match memory::place_of(m, paging, addr) {
         Place::Rom(_) => 0,
         Place::Ram(at) => ram[at],
     }
@@ -52,12 +43,10 @@ pub fn floating_bus_value(bus: Bus, clock: u32, ram: &[u8]) -> u8
     requires { length ram.now ≡ (specs_of bus.machine).ram }
     ensures { result ≡ floating_bus bus.machine (at_clock clock (core_of bus ram.now)) }
 {
-    let m = bus.machine;
-    let place = ports::floating_place(m, clock);
-    let address = ports::floating_address(place);
-    match address {
+    let place = ports::floating_place(bus.machine, clock);
+    match ports::floating_address(place) {
         FloatingAddress::Idle => 0xFF,
-        FloatingAddress::At(addr) => picture_byte(m, bus.paging, ram, addr),
+        FloatingAddress::At(addr) => picture_byte(bus.machine, bus.paging, ram, addr),
     }
 }
 
@@ -81,7 +70,7 @@ pub fn read_io(
     a: &mut [u8],
     b: &mut [u8],
     border: &mut [u8],
-) -> ReadTurn
+) -> Answered
     requires { Ready (turn_of t ram.now a.old b.old border.old) 2 28 }
     ensures { (turn_of result.turn ram.now a.new b.new border.new
         ≡ ran_by (port_read t.bus.machine port) (turn_of t ram.now a.old b.old border.old))
@@ -91,7 +80,7 @@ pub fn read_io(
     let n = contention::part_clocks(bus, port);
     let value = read_value(ports::read_port(devices, port), bus, bus.clock + n, ram);
     let turn = steps::wait_internal(t, n + 1, ram, a, b, border);
-    ReadTurn { turn, value }
+    Answered { turn, value }
 }
 
 // A border write at a clock: the reported border, and the beam.
@@ -100,67 +89,27 @@ pub fn set_border_color(t: Turning, clock: u32, color: u8, border: &mut [u8]) ->
     ensures { (ram a b : List ℕ) → turn_of result ram a b border.new ≡ inked_at_clock clock color (turn_of t ram a b border.old) }
 {
     let bus = t.bus;
-    let m = bus.machine;
-    let beam = border::set_border(
-        Beam {
-            colour: bus.colour,
-            blocked: bus.blocked,
-            pairs: bus.pairs,
-        },
-        m,
-        clock,
-        color,
-        border,
-    );
+    let beam = border::set_border(steps::beam_of(bus), bus.machine, clock, color, border);
     let bus = Bus {
-        machine: m,
-        clock: bus.clock,
-        passed: bus.passed,
-        phase: bus.phase,
-        painted: bus.painted,
-        paging: bus.paging,
         reported: color,
-        colour: beam.colour,
-        blocked: beam.blocked,
-        pairs: beam.pairs,
+        ..steps::with_beam(bus, beam)
     };
-    Turning {
-        bus,
-        clocks: t.clocks,
-        blocks: t.blocks,
-        closed: t.closed,
-    }
+    Turning { bus, ..t }
 }
 
 // A 7FFD write, and what it answers.
-pub fn write_7ffd(t: Turning, value: u8) -> WriteTurn
+pub fn write_7ffd(t: Turning, value: u8) -> Answered
     ensures { ((ram a b border : List ℕ) → turn_of result.turn ram a b border ≡ ran_by (paging_write t.bus.machine value) (turn_of t ram a b border))
-        × (result.code ≡ paged_code (write7ffd t.bus.machine t.bus.paging value)) }
+        × (result.value ≡ paged_code (write7ffd t.bus.machine t.bus.paging value)) }
 {
     let bus = t.bus;
-    let m = bus.machine;
-    let taken = memory::write_7ffd(m, bus.paging, value);
-    let code = memory::paged_code(taken);
+    let taken = memory::write_7ffd(bus.machine, bus.paging, value);
     let paging = memory::paging_after(taken, bus.paging);
-    let bus = Bus {
-        machine: m,
-        clock: bus.clock,
-        passed: bus.passed,
-        phase: bus.phase,
-        painted: bus.painted,
-        paging,
-        reported: bus.reported,
-        colour: bus.colour,
-        blocked: bus.blocked,
-        pairs: bus.pairs,
-    };
-    let turn = Turning {
-        bus,
-        clocks: t.clocks,
-        blocks: t.blocks,
-        closed: t.closed,
-    };
-    WriteTurn { turn, code }
+    let bus = Bus { paging, ..bus };
+    Answered {
+        turn: Turning { bus, ..t },
+        value: memory::paged_code(taken),
+    }
 }
 
 // A write that does nothing to the bus: all its steps are one.
@@ -215,22 +164,20 @@ fn write_paging(
     a: &mut [u8],
     b: &mut [u8],
     border: &mut [u8],
-) -> WriteTurn
+) -> Answered
     requires { Ready (turn_of t ram.now a.old b.old border.old) 2 28 }
     ensures { (turn_of result.turn ram.now a.new b.new border.new
         ≡ ran_by (paged_write t.bus.machine port value) (turn_of t ram.now a.old b.old border.old))
-        × (result.code ≡ paged_code (write7ffd t.bus.machine t.bus.paging value)) }
+        × (result.value ≡ paged_code (write7ffd t.bus.machine t.bus.paging value)) }
 {
     let bus = t.bus;
     let first = contention::first_clocks(bus, port);
     let before = steps::stepped(t, first, ram, a, b, border);
     let acted = write_7ffd(before, value);
-    let code = acted.code;
-    let turn = acted.turn;
-    let bus = turn.bus;
+    let bus = acted.turn.bus;
     let last = contention::last_clocks(bus, bus.clock, port);
-    let turn = steps::stepped(turn, last + 1, ram, a, b, border);
-    WriteTurn { turn, code }
+    let turn = steps::stepped(acted.turn, last + 1, ram, a, b, border);
+    Answered { turn, ..acted }
 }
 
 // A port write, by who hears it. The extender's and the AY's part is the firmware's.
@@ -243,26 +190,23 @@ pub fn write_io(
     a: &mut [u8],
     b: &mut [u8],
     border: &mut [u8],
-) -> WriteTurn
+) -> Answered
     requires { Ready (turn_of t ram.now a.old b.old border.old) 2 28 }
     ensures { (turn_of result.turn ram.now a.new b.new border.new
         ≡ ran_by (port_write t.bus.machine devices port value) (turn_of t ram.now a.old b.old border.old))
-        × (result.code ≡ write_code t.bus.machine devices port value (core_of t.bus ram.now)) }
+        × (result.value ≡ write_code t.bus.machine devices port value (core_of t.bus ram.now)) }
 {
-    let bus = t.bus;
-    let m = bus.machine;
-    let written = ports::write_port(m, devices, port);
-    match written {
+    match ports::write_port(t.bus.machine, devices, port) {
         Written::Border => {
             let turn = write_border(t, port, value % 8, ram, a, b, border);
-            WriteTurn { turn, code: 4 }
+            Answered { turn, value: 4 }
         }
         Written::Paging => write_paging(t, port, value, ram, a, b, border),
-        _ => {
+        written => {
             let turn = write_quietly(t, port, ram, a, b, border);
-            WriteTurn {
+            Answered {
                 turn,
-                code: ports::written_code(written, 0),
+                value: ports::written_code(written, 0),
             }
         }
     }

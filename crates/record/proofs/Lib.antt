@@ -1,3 +1,4 @@
 pub mod Judged
 pub mod Soundness
 pub mod Round
+pub mod Stored

@@ -69,77 +69,31 @@ pub const LENGTH: usize = PAIRS + 2;
 // The last number of passed frames.
 pub const LAST_FRAME: u32 = 4294967295;
 
+// Every number names a machine, also those above 1, which the judgement refuses by itself: a conversion that cannot fail.
 pub fn machine_from(n: u8) -> ZXMachine
     ensures { result ≡ machine_of n }
 {
-    if n == 0 {
-        ZXMachine::Sinclair48K
-    } else {
-        ZXMachine::Sinclair128K
+    match n {
+        0 => ZXMachine::Sinclair48K,
+        _ => ZXMachine::Sinclair128K,
     }
-}
-
-fn machine_number(m: ZXMachine) -> u8
-    ensures { result ≡ machine_number m }
-{
-    match m {
-        ZXMachine::Sinclair48K => 0,
-        ZXMachine::Sinclair128K => 1,
-    }
-}
-
-fn flag(t: bool) -> u8
-    ensures { result ≡ flag_byte t }
-{
-    if t { 1 } else { 0 }
-}
-
-// Two bytes, low byte first.
-fn word(a: u8, b: u8) -> u16
-    ensures { result ≡ le16 a b }
-{
-    a as u16 + 256 * (b as u16)
-}
-
-// Four bytes, low byte first.
-fn long(a: u8, b: u8, c: u8, d: u8) -> u32
-    ensures { result ≡ le32 a b c d }
-{
-    a as u32 + 256 * (b as u32) + 65536 * (c as u32) + 16777216 * (d as u32)
-}
-
-// The two bytes from a place of a slice on.
-fn word_at(s: &[u8], at: usize) -> u16
-    requires { at + 2 ≤ length s.now }
-    ensures { result ≡ word_at s.now at }
-{
-    word(s[at], s[at + 1])
-}
-
-// The four bytes from a place of a slice on.
-fn long_at(s: &[u8], at: usize) -> u32
-    requires { at + 4 ≤ length s.now }
-    ensures { result ≡ long_at s.now at }
-{
-    long(s[at], s[at + 1], s[at + 2], s[at + 3])
 }
 
 // The record that the bytes stand for.
-fn decode(s: &[u8]) -> Bus
-    requires { length s.now ≡ record_length }
+fn decode(s: &[u8; LENGTH]) -> Bus
     ensures { result ≡ record_of s.now }
 {
     Bus {
         machine: machine_from(s[MACHINE]),
-        clock: long_at(s, CLOCK),
-        passed: long_at(s, PASSED),
+        clock: u32::from_le_bytes([s[CLOCK], s[CLOCK + 1], s[CLOCK + 2], s[CLOCK + 3]]),
+        passed: u32::from_le_bytes([s[PASSED], s[PASSED + 1], s[PASSED + 2], s[PASSED + 3]]),
         phase: s[PHASE],
-        painted: word_at(s, PAINTED),
+        painted: u16::from_le_bytes([s[PAINTED], s[PAINTED + 1]]),
         paging: s[PAGING],
         reported: s[REPORTED],
         colour: s[COLOUR],
         blocked: s[BLOCKED] == 1,
-        pairs: word_at(s, PAIRS),
+        pairs: u16::from_le_bytes([s[PAIRS], s[PAIRS + 1]]),
     }
 }
 
@@ -147,41 +101,44 @@ fn decode(s: &[u8]) -> Bus
 pub fn bytes(b: Bus) -> [u8; LENGTH]
     ensures { result ≡ record_bytes b }
 {
-    let m = b.machine;
+    let [clock_0, clock_1, clock_2, clock_3] = b.clock.to_le_bytes();
+    let [passed_0, passed_1, passed_2, passed_3] = b.passed.to_le_bytes();
+    let [painted_0, painted_1] = b.painted.to_le_bytes();
+    let [pairs_0, pairs_1] = b.pairs.to_le_bytes();
     [
-        85,
-        76,
-        66,
+        b'U',
+        b'L',
+        b'B',
         1,
         0,
-        machine_number(m),
-        (b.clock % 256) as u8,
-        (b.clock / 256 % 256) as u8,
-        (b.clock / 256 / 256 % 256) as u8,
-        (b.clock / 256 / 256 / 256 % 256) as u8,
-        (b.passed % 256) as u8,
-        (b.passed / 256 % 256) as u8,
-        (b.passed / 256 / 256 % 256) as u8,
-        (b.passed / 256 / 256 / 256 % 256) as u8,
+        b.machine as u8,
+        clock_0,
+        clock_1,
+        clock_2,
+        clock_3,
+        passed_0,
+        passed_1,
+        passed_2,
+        passed_3,
         b.phase,
-        (b.painted % 256) as u8,
-        (b.painted / 256 % 256) as u8,
+        painted_0,
+        painted_1,
         b.paging,
         b.reported,
         b.colour,
-        flag(b.blocked),
-        (b.pairs % 256) as u8,
-        (b.pairs / 256 % 256) as u8,
+        u8::from(b.blocked),
+        pairs_0,
+        pairs_1,
     ]
 }
 
 // The record's bytes into a lent slice.
+// Kept: as `&mut [u8; LENGTH]` an array made of the caller's slice leaves open, in the caller's proof, what the slice holds afterwards.
 pub fn encode(dst: &mut [u8], b: Bus)
     requires { length dst.old ≡ record_length }
     ensures { dst.new ≡ record_bytes b }
 {
-    let all = bytes(b);
-    dst.copy_from_slice(&all);
+    dst.copy_from_slice(&bytes(b));
 }
 
 // Clock and painted blocks alone, into the bytes of a record that keeps the rest.
@@ -189,27 +146,23 @@ pub fn advance(dst: &mut [u8], clock: u32, painted: u16)
     requires { length dst.old ≡ record_length }
     ensures { dst.new ≡ advanced dst.old clock painted }
 {
-    dst[CLOCK] = (clock % 256) as u8;
-    dst[CLOCK + 1] = (clock / 256 % 256) as u8;
-    dst[CLOCK + 2] = (clock / 256 / 256 % 256) as u8;
-    dst[CLOCK + 3] = (clock / 256 / 256 / 256 % 256) as u8;
-    dst[PAINTED] = (painted % 256) as u8;
-    dst[PAINTED + 1] = (painted / 256 % 256) as u8;
+    dst[CLOCK..CLOCK + 4].copy_from_slice(&clock.to_le_bytes());
+    dst[PAINTED..PAINTED + 2].copy_from_slice(&painted.to_le_bytes());
 }
 
-// Mark, version, and the two bytes that have only two values. The version goes byte by byte, as it is written.
-fn coded(s: &[u8]) -> bool
-    requires { length s.now ≡ record_length }
+// Mark, version, and the two bytes that have only two values. The version goes byte by byte, as it is written. `&` in place of a pattern or of
+// `&&`: each of those tests would be a branch on the timing path.
+fn coded(s: &[u8; LENGTH]) -> bool
     ensures { result ≡ (marked s.now && codes_in_range s.now) }
 {
-    (s[0] == 85)
-        & (s[1] == 76)
-        & (s[2] == 66)
+    (s[0] == b'U')
+        & (s[1] == b'L')
+        & (s[2] == b'B')
         & ((s[VERSION] == 1) & (s[VERSION + 1] == 0))
         & ((s[MACHINE] < 2) & (s[BLOCKED] < 2))
 }
 
-// The ranges of the fields; those of passed frames and of the 7FFD byte are their types'.
+// The ranges of the fields, `&` as above; those of passed frames and of the 7FFD byte are their types'.
 fn in_range(b: Bus) -> bool
     ensures { result ≡ in_range b }
 {
@@ -231,45 +184,30 @@ fn in_place(b: Bus) -> bool
     ensures { result ≡ (painted_in_place b && pairs_in_place b && blocked_at_end b) }
 {
     let m = b.machine;
-    let painted = b.painted as u32;
-    let pairs = b.pairs as u32;
+    let painted = u32::from(b.painted);
+    let pairs = u32::from(b.pairs);
     let reached = m.has_reached_block(painted, b.clock) & m.has_reached_pair(pairs, b.clock);
-    if b.blocked {
-        return reached & (m.frame_end(b.clock) & (pairs == 0));
-    }
-    reached
+    reached & (!b.blocked || (m.frame_end(b.clock) & (pairs == 0)))
 }
 
 // The cheap tests come first, those of the places only behind them.
 fn sound_bus(b: Bus) -> bool
     ensures { result ≡ sound_bus b }
 {
-    let m = b.machine;
-    let specs = m.specs();
-    if in_range(b) & (b.clock < specs.frame) & paging_allowed(m, b.paging) {
-        in_place(b)
-    } else {
-        false
-    }
+    let specs = b.machine.specs();
+    in_range(b) & (b.clock < specs.frame) & paging_allowed(b.machine, b.paging) && in_place(b)
 }
 
 // What a lent slice holds.
 pub fn look(s: &[u8]) -> Result<Bus, BadRecord>
     ensures { result ≡ held_by s.now }
 {
-    if s.len() == LENGTH {
-        if coded(s) {
-            let b = decode(s);
-            if sound_bus(b) {
-                Ok(b)
-            } else {
-                Err(BadRecord::Unsound)
-            }
-        } else {
-            Err(BadRecord::Unsound)
-        }
+    let bytes = s.as_array().ok_or(BadRecord::WrongLength)?;
+    let bus = decode(bytes);
+    if coded(bytes) && sound_bus(bus) {
+        Ok(bus)
     } else {
-        Err(BadRecord::WrongLength)
+        Err(BadRecord::Unsound)
     }
 }
 

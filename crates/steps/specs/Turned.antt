@@ -6,6 +6,7 @@ use Rattle.machine.specs.Numbers.{specs_of}
 use Rattle.machine.specs.Limits.{picture_length, border_length}
 use Rattle.machine.specs.Timing.{block_position}
 use Rattle.record.specs.declared.Bus.{Bus}
+use Rattle.border.specs.declared.Beam.{Beam}
 use Rattle.border.specs.Edge.{Edge}
 use Rattle.memory.specs.Paging.{shown_page}
 use Rattle.steps.specs.declared.Turning.{Turning}
@@ -27,6 +28,25 @@ screen_of painted a b = record { painted = painted; a = a; b = b }
 
 abbrev pub edge_in : Bus → List ℕ → Edge
 edge_in bus border = record { colour = bus.colour; blocked = bus.blocked; pairs = bus.pairs; pixels = border }
+
+-- the border's beam of a state record, and a state record with another beam
+abbrev pub beam_in : Bus → Beam
+beam_in bus = record { colour = bus.colour; blocked = bus.blocked; pairs = bus.pairs }
+
+abbrev pub beamed : Bus → Beam → Bus
+beamed bus beam =
+    record {
+      machine = bus.machine;
+      clock = bus.clock;
+      passed = bus.passed;
+      phase = bus.phase;
+      painted = bus.painted;
+      paging = bus.paging;
+      reported = bus.reported;
+      colour = beam.colour;
+      blocked = beam.blocked;
+      pairs = beam.pairs;
+    }
 
 abbrev pub look_to : ℕ → Bus → List ℕ → Look
 look_to position bus ram = record { at = position; ram = ram; page = shown_page bus.machine bus.paging; flash = flash_on bus.phase }

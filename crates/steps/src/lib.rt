@@ -12,7 +12,7 @@ ghost use Rattle.bus.specs.World.{world_of};
 ghost use Rattle.bus.specs.Time.{tick, shows_a, caught_up};
 ghost use Rattle.bus.specs.Turns.{turned, ran_by, fresh};
 ghost use Rattle.bus.specs.Calls.{plain_wait};
-ghost use Rattle.steps.specs.Turned.{turn_of, screen_of, edge_in, look_to, next_frame, Ready};
+ghost use Rattle.steps.specs.Turned.{turn_of, screen_of, edge_in, beam_in, beamed, look_to, next_frame, Ready};
 
 use border::Beam;
 use record::Bus;
@@ -38,6 +38,29 @@ pub fn begun(bus: Bus) -> Turning
     }
 }
 
+// The border's beam, out of the record.
+pub fn beam_of(bus: Bus) -> Beam
+    ensures { result ≡ beam_in bus }
+{
+    Beam {
+        colour: bus.colour,
+        blocked: bus.blocked,
+        pairs: bus.pairs,
+    }
+}
+
+// The record with that beam.
+pub fn with_beam(bus: Bus, beam: Beam) -> Bus
+    ensures { result ≡ beamed bus beam }
+{
+    Bus {
+        colour: beam.colour,
+        blocked: beam.blocked,
+        pairs: beam.pairs,
+        ..bus
+    }
+}
+
 // The hidden picture takes the blocks from the painted count up to a position; how many they are. A step that has none to paint ends at the
 // first test.
 fn catch_up(bus: Bus, position: u32, ram: &[u8], a: &mut [u8], b: &mut [u8]) -> u32
@@ -50,8 +73,7 @@ fn catch_up(bus: Bus, position: u32, ram: &[u8], a: &mut [u8], b: &mut [u8]) -> 
     if to <= from {
         return 0;
     }
-    let m = bus.machine;
-    let start = 16384 * memory::screen_bank(m, bus.paging) as usize;
+    let start = 16384 * memory::screen_bank(bus.machine, bus.paging) as usize;
     let flash = (1 <= bus.phase) & (bus.phase <= 16);
     if bus.phase % 2 == 0 {
         paint::paint_ram(ram, start, b, from, to, flash) as u32
@@ -65,32 +87,19 @@ fn close_frame(bus: Bus, clock: u32, border: &mut [u8]) -> Bus
     requires { HasRoom bus.passed × (bus.phase < 32) × (length border.old ≡ border_length) }
     ensures { (result ≡ next_frame bus clock) × (border.new ≡ (finished (edge_in bus border.old)).pixels) }
 {
-    let m = bus.machine;
-    let beam = border::new_frame(
-        Beam {
-            colour: bus.colour,
-            blocked: bus.blocked,
-            pairs: bus.pairs,
-        },
-        border,
-    );
-    let passed = bus.passed + 1;
-    let phase = (bus.phase + 1) % 32;
+    let beam = border::new_frame(beam_of(bus), border);
     Bus {
-        machine: m,
         clock,
-        passed,
-        phase,
+        passed: bus.passed + 1,
+        phase: (bus.phase + 1) % 32,
         painted: 0,
-        paging: bus.paging,
-        reported: bus.reported,
-        colour: beam.colour,
-        blocked: beam.blocked,
-        pairs: beam.pairs,
+        ..with_beam(bus, beam)
     }
 }
 
 // The step: n clocks are added, the screen is caught up, and at or past the frame's end one frame is taken off and closed.
+// Kept: the four lent slices stay four arguments. Behind `&mut` of a struct of them the caller does not learn what its own slices hold at the end
+// (a callee may put others into it), and by value the fields of such a struct have no names in an `ensures`.
 pub fn stepped(
     t: Turning,
     n: u32,
@@ -104,44 +113,37 @@ pub fn stepped(
         ≡ turned (tick n) (turn_of t ram.now a.old b.old border.old) }
 {
     let bus = t.bus;
-    let m = bus.machine;
     let clock = bus.clock + n;
-    let position = m.block_position(clock);
+    let position = bus.machine.block_position(clock);
     let painted = catch_up(bus, position, ram, a, b);
     let clocks = t.clocks + n;
     let blocks = t.blocks + painted;
-    let specs = m.specs();
-    let frame = specs.frame;
+    let frame = bus.machine.specs().frame;
     if frame <= clock {
         let bus = close_frame(bus, clock - frame, border);
-        return Turning {
+        Turning {
             bus,
             clocks,
             blocks,
             closed: true,
+        }
+    } else {
+        let bus = Bus {
+            clock,
+            painted: position as u16,
+            ..bus
         };
-    }
-    let bus = Bus {
-        machine: m,
-        clock,
-        passed: bus.passed,
-        phase: bus.phase,
-        painted: position as u16,
-        paging: bus.paging,
-        reported: bus.reported,
-        colour: bus.colour,
-        blocked: bus.blocked,
-        pairs: bus.pairs,
-    };
-    Turning {
-        bus,
-        clocks,
-        blocks,
-        closed: t.closed,
+        Turning {
+            bus,
+            clocks,
+            blocks,
+            ..t
+        }
     }
 }
 
 // The same step, on the record where it stands.
+// Kept: 01 names this form ("one thin function over &mut of the bus record, above the same step by value").
 pub fn step(turn: &mut Turning, n: u32, ram: &[u8], a: &mut [u8], b: &mut [u8], border: &mut [u8])
     requires { Ready (turn_of turn.old ram.now a.old b.old border.old) 1 n }
     ensures { turn_of turn.new ram.now a.new b.new border.new

@@ -40,7 +40,7 @@ pub extern "C" fn ulb_write_io(
             let devices = ports::devices_from(devices);
             let written = calls::write_io(begun, devices, port, value, ram, a, b, border);
             let turn = written.turn;
-            timed::finish(turn, written.code, state, answer)
+            timed::finish(turn, written.value, state, answer)
         }
     }
 }

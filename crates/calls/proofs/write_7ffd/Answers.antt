@@ -6,4 +6,4 @@ use Rattle.calls.proofs.write_7ffd.Goals as goal
 pub returns : goal.returns
 returns c =
     let g = c.args in
-    (repaged_is g.t g.value _ _ c.write_7ffd-taken.ensures c.paging_after-paging.ensures, c.paged_code-code.ensures ∙ ap paged_code c.write_7ffd-taken.ensures)
+    (repaged_is g.t g.value _ _ c.write_7ffd-taken.ensures c.paging_after-paging.ensures, c.paged_code.ensures ∙ ap paged_code c.write_7ffd-taken.ensures)

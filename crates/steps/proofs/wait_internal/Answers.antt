@@ -1,6 +1,7 @@
-use mathlib.Core.Path.{◌∙◌}
-use Rattle.steps.proofs.CodeStep.{one_step}
+use borrow.Author.Rules.{rules}
+use Rattle.bus.specs.Turns.{ran}
 use Rattle.steps.proofs.wait_internal.Goals as goal
 
 pub returns : goal.returns
-returns c = c.step.ensures ∙ one_step _ _
+unfolding ran
+returns c = c.step.ensures
