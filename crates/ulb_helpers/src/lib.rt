@@ -27,7 +27,7 @@ fn help(h: Helped, answer: &mut [u8]) -> u8
             ),
         }
     } else {
-        judgement::number(Refusal::BadLength)
+        u8::from(Refusal::BadLength)
     }
 }
 

@@ -36,7 +36,7 @@ pub extern "C" fn ulb_load_page(state: &[u8], ram: &mut [u8], src: &[u8], page: 
     ensures { changed result ram.new ≡ load_page state.now ram.old src.now page }
 {
     match judgement::judge_load(state, ram.len(), src.len(), page) {
-        Err(e) => judgement::number(e),
+        Err(e) => u8::from(e),
         Ok(_) => {
             memory::load(ram, page, src);
             0

@@ -50,7 +50,7 @@ pub extern "C" fn ulb_still_picture(state: &[u8], ram: &[u8], picture: &mut [u8]
     ensures { changed result picture.new ≡ still_picture state.now ram.now picture.old flash }
 {
     match judgement::judge_still(state, ram.len(), picture.len(), flash) {
-        Err(e) => judgement::number(e),
+        Err(e) => u8::from(e),
         Ok(bus) => {
             let m = bus.machine;
             let shown = memory::screen_bank(m, bus.paging);

@@ -13,7 +13,7 @@ pub extern "C" fn ulb_save_scr(state: &[u8], ram: &[u8], file: &mut [u8]) -> u8
     ensures { changed result file.new ≡ save_scr state.now ram.now file.old }
 {
     match judgement::judge_save_scr(state, ram.len(), file.len()) {
-        Err(e) => judgement::number(e),
+        Err(e) => u8::from(e),
         Ok(bus) => {
             let m = bus.machine;
             let page = memory::screen_bank(m, bus.paging);
@@ -29,7 +29,7 @@ pub extern "C" fn ulb_load_scr(state: &[u8], ram: &mut [u8], file: &[u8], page: 
     ensures { changed result ram.new ≡ load_scr state.now ram.old file.now page }
 {
     match judgement::judge_load_scr(state, ram.len(), file.len(), page) {
-        Err(e) => judgement::number(e),
+        Err(e) => u8::from(e),
         Ok(_) => {
             memory::load(ram, page, file);
             0

@@ -10,6 +10,7 @@ ghost use Rattle.contracts.specs.Plain.{changed};
 ghost use Rattle.contracts.specs.Snapshots.{import_leaves, load_sna, save_sna};
 
 use judgement::Refusal;
+use record::Bus;
 
 // The causes in their order: machine, lengths, the size that is due, the copies. Accepted, with the record that is to be written.
 fn judge_load_sna(
@@ -72,14 +73,14 @@ pub extern "C" fn ulb_load_sna(
         machine,
         file,
     ) {
-        Err(e) => judgement::number(e),
+        Err(e) => u8::from(e),
         Ok(bus) => {
             let m = bus.machine;
             snapshot::read_ram(m, file, ram);
             snapshot::read_registers(m, file, registers);
-            judgement::clear(a);
-            judgement::clear(b);
-            judgement::clear(border);
+            a.fill(0);
+            b.fill(0);
+            border.fill(0);
             record::encode(state, bus);
             0
         }
@@ -92,7 +93,7 @@ pub extern "C" fn ulb_save_sna(state: &[u8], ram: &[u8], file: &mut [u8], regist
     ensures { changed result file.new ≡ save_sna state.now ram.now file.old registers.now }
 {
     match judgement::judge_save_sna(state, ram.len(), file.len(), registers.len()) {
-        Err(e) => judgement::number(e),
+        Err(e) => u8::from(e),
         Ok(bus) => {
             let m = bus.machine;
             snapshot::write_file(m, bus.paging, bus.reported, ram, registers, file);

@@ -8,6 +8,7 @@ ghost use Rattle.judgement.specs.Judges.{judge_start};
 ghost use Rattle.contracts.specs.Timed.{lent, start_leaves, start_colour, start};
 
 use judgement::Refusal;
+use record::Bus;
 
 // The causes in their order: machine, lengths, colour. Accepted, with the record that is to be written.
 fn judge_start(
@@ -59,12 +60,12 @@ pub extern "C" fn ulb_start_colour(
         machine,
         colour,
     ) {
-        Err(e) => judgement::number(e),
+        Err(e) => u8::from(e),
         Ok(bus) => {
-            judgement::clear(ram);
-            judgement::clear(a);
-            judgement::clear(b);
-            judgement::clear(border);
+            ram.fill(0);
+            a.fill(0);
+            b.fill(0);
+            border.fill(0);
             record::encode(state, bus);
             0
         }

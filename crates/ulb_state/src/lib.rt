@@ -41,6 +41,7 @@ pub extern "C" fn ulb_read_7ffd(state: &[u8], answer: &mut [u8]) -> u8
     }
 }
 
+#[tactic(auto, unfolding(contracts::specs::Plain::int_active))]
 #[unsafe(no_mangle)]
 pub extern "C" fn ulb_int_active(state: &[u8], answer: &mut [u8]) -> u8
     ensures { told result answer.new ≡ int_active state.now answer.old }
@@ -48,7 +49,7 @@ pub extern "C" fn ulb_int_active(state: &[u8], answer: &mut [u8]) -> u8
     match judgement::judge_told(state, answer.len()) {
         Err(e) => judgement::refuse(answer, judgement::NUMBER_LENGTH, e),
         Ok(bus) => {
-            let on = judgement::flag(machine::int_active(bus.clock));
+            let on = u8::from(machine::int_active(bus.clock));
             judgement::fill_number(answer, on as u32);
             0
         }
@@ -75,7 +76,7 @@ pub extern "C" fn ulb_reset_frame_counter(state: &mut [u8]) -> u8
     ensures { changed result state.new ≡ reset_frames state.old }
 {
     match judgement::judge_state(state) {
-        Err(e) => judgement::number(e),
+        Err(e) => u8::from(e),
         Ok(bus) => {
             record::encode(state, Bus { passed: 0, ..bus });
             0

@@ -13,7 +13,7 @@ pub extern "C" fn ulb_write_internal(state: &[u8], ram: &mut [u8], addr: u16, va
     ensures { changed result ram.new ≡ write_internal state.now ram.old addr value }
 {
     match judgement::judge_write(state, ram.len()) {
-        Err(e) => judgement::number(e),
+        Err(e) => u8::from(e),
         Ok(bus) => {
             let m = bus.machine;
             memory::write(m, bus.paging, ram, addr, value);

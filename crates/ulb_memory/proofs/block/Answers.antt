@@ -8,15 +8,15 @@ use Rattle.ulb_memory.proofs.block.Goals as goal
 
 pub page_data-requires : goal.page_data-requires
 page_data-requires c =
-    let r = ready_block _ _ _ _ _ _ (sym c.judge_block-v.ensures ∙ c.in-Accepted.is) in
+    let r = ready_block _ _ _ _ _ _ (sym c.judge_block.ensures ∙ c.in-Ok.is) in
     block_holds _ r c.get_bank_type-page.ensures
 
-pub returns-in-Refused : goal.returns-in-Refused
+pub returns-in-Err : goal.returns-in-Err
 unfolding block_part
-returns-in-Refused c = part_refused _ _ c.judge_block-v.ensures _ _ c.in-Refused.is
+returns-in-Err c = part_refused _ _ c.judge_block.ensures _ _ c.in-Err.is
 
-pub returns-in-Accepted : goal.returns-in-Accepted
+pub returns-in-Ok : goal.returns-in-Ok
 unfolding block_part
-returns-in-Accepted c =
-    part_accepted _ _ c.judge_block-v.ensures _ _ _ c.in-Accepted.is
+returns-in-Ok c =
+    part_accepted _ _ c.judge_block.ensures _ _ _ c.in-Ok.is
     (rw (c.page_data.ensures, c.get_bank_type-page.ensures))

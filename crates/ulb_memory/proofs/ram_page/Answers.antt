@@ -7,12 +7,12 @@ use Rattle.contracts.proofs.Leaves.{part_refused, part_accepted, page_fits}
 use Rattle.ulb_memory.proofs.ram_page.Goals as goal
 
 pub ram_page_data-requires : goal.ram_page_data-requires
-ram_page_data-requires c = page_fits (ready_ram_page _ _ _ _ _ (sym c.judge_ram_page-v.ensures ∙ c.in-Accepted.is))
+ram_page_data-requires c = page_fits (ready_ram_page _ _ _ _ _ (sym c.judge_ram_page.ensures ∙ c.in-Ok.is))
 
-pub returns-in-Refused : goal.returns-in-Refused
+pub returns-in-Err : goal.returns-in-Err
 unfolding ram_page_part
-returns-in-Refused c = part_refused _ _ c.judge_ram_page-v.ensures _ _ c.in-Refused.is
+returns-in-Err c = part_refused _ _ c.judge_ram_page.ensures _ _ c.in-Err.is
 
-pub returns-in-Accepted : goal.returns-in-Accepted
+pub returns-in-Ok : goal.returns-in-Ok
 unfolding ram_page_part
-returns-in-Accepted c = part_accepted _ _ c.judge_ram_page-v.ensures _ _ _ c.in-Accepted.is c.ram_page_data.ensures
+returns-in-Ok c = part_accepted _ _ c.judge_ram_page.ensures _ _ _ c.in-Ok.is c.ram_page_data.ensures

@@ -7,14 +7,14 @@ use Rattle.contracts.proofs.Leaves.{changed_refused, changed_accepted, load_fits
 use Rattle.ulb_memory.proofs.ulb_load_page.Goals as goal
 
 pub load-requires : goal.load-requires
-load-requires c = load_fits (ready_load _ _ _ _ _ (sym c.judge_load-v.ensures ∙ c.in-Accepted.is))
+load-requires c = load_fits (ready_load _ _ _ _ _ (sym c.judge_load.ensures ∙ c.in-Ok.is))
 
-pub returns-in-Refused : goal.returns-in-Refused
+pub returns-in-Err : goal.returns-in-Err
 unfolding load_page
-returns-in-Refused c =
-    changed_refused _ _ c.judge_load-v.ensures _ _ _ _ c.in-Refused.is c.number.ensures
+returns-in-Err c =
+    changed_refused _ _ c.judge_load.ensures _ _ _ _ c.in-Err.is c.from.ensures
 
-pub returns-in-Accepted : goal.returns-in-Accepted
+pub returns-in-Ok : goal.returns-in-Ok
 unfolding load_page
-returns-in-Accepted c =
-    changed_accepted _ _ c.judge_load-v.ensures _ _ _ _ c.in-Accepted.is c.load.ensures
+returns-in-Ok c =
+    changed_accepted _ _ c.judge_load.ensures _ _ _ _ c.in-Ok.is c.load.ensures

@@ -8,19 +8,19 @@ use Rattle.ulb_memory.proofs.ulb_read_internal.Goals as goal
 
 pub read-value-requires : goal.read-value-requires
 read-value-requires c =
-    let r = ready_read _ _ _ _ _ (sym c.judge_read-v.ensures ∙ c.in-Accepted.is) in
+    let r = ready_read _ _ _ _ _ (sym c.judge_read.ensures ∙ c.in-Ok.is) in
     (r.rom_is, r.ram_is)
 
 pub fill_number-requires : goal.fill_number-requires
-fill_number-requires c = (ready_read _ _ _ _ _ (sym c.judge_read-v.ensures ∙ c.in-Accepted.is)).answer_is
+fill_number-requires c = (ready_read _ _ _ _ _ (sym c.judge_read.ensures ∙ c.in-Ok.is)).answer_is
 
-pub returns-in-Refused : goal.returns-in-Refused
+pub returns-in-Err : goal.returns-in-Err
 unfolding read_internal
-returns-in-Refused c =
-    told_refused _ _ c.judge_read-v.ensures _ _ _ _ _ c.in-Refused.is c.refuse.ensures
+returns-in-Err c =
+    told_refused _ _ c.judge_read.ensures _ _ _ _ _ c.in-Err.is c.refuse.ensures
 
-pub returns-in-Accepted : goal.returns-in-Accepted
+pub returns-in-Ok : goal.returns-in-Ok
 unfolding read_internal
-returns-in-Accepted c =
-    told_accepted _ _ c.judge_read-v.ensures _ _ _ _ _ c.in-Accepted.is c.fill_number.ensures
+returns-in-Ok c =
+    told_accepted _ _ c.judge_read.ensures _ _ _ _ _ c.in-Ok.is c.fill_number.ensures
     c.read-value.ensures

@@ -8,15 +8,15 @@ use Rattle.contracts.proofs.Leaves.{told_refused, told_accepted}
 use Rattle.ulb_pictures.proofs.ulb_shown_picture.Goals as goal
 
 pub fill_number-requires : goal.fill_number-requires
-fill_number-requires c = eqb-true _ _ (ready_shown _ _ _ _ _ (sym c.judge_shown-v.ensures ∙ c.in-Accepted.is)).answer_fits
+fill_number-requires c = eqb-true _ _ (ready_shown _ _ _ _ _ (sym c.judge_shown.ensures ∙ c.in-Ok.is)).answer_fits
 
-pub returns-in-Refused : goal.returns-in-Refused
+pub returns-in-Err : goal.returns-in-Err
 unfolding shown_told
-returns-in-Refused c =
-    told_refused _ _ c.judge_shown-v.ensures _ _ _ _ _ c.in-Refused.is c.refuse.ensures
+returns-in-Err c =
+    told_refused _ _ c.judge_shown.ensures _ _ _ _ _ c.in-Err.is c.refuse.ensures
 
-pub returns-in-Accepted : goal.returns-in-Accepted
+pub returns-in-Ok : goal.returns-in-Ok
 unfolding shown_told
-returns-in-Accepted c =
-    told_accepted _ _ c.judge_shown-v.ensures _ _ _ _ _ c.in-Accepted.is c.fill_number.ensures
+returns-in-Ok c =
+    told_accepted _ _ c.judge_shown.ensures _ _ _ _ _ c.in-Ok.is c.fill_number.ensures
     c.shown_start-start.ensures

@@ -7,14 +7,14 @@ use Rattle.contracts.proofs.Leaves.{changed_refused, changed_accepted, load_scr_
 use Rattle.ulb_scr.proofs.ulb_load_scr.Goals as goal
 
 pub load-requires : goal.load-requires
-load-requires c = load_scr_fits (ready_load_scr _ _ _ _ _ (sym c.judge_load_scr-v.ensures ∙ c.in-Accepted.is))
+load-requires c = load_scr_fits (ready_load_scr _ _ _ _ _ (sym c.judge_load_scr.ensures ∙ c.in-Ok.is))
 
-pub returns-in-Refused : goal.returns-in-Refused
+pub returns-in-Err : goal.returns-in-Err
 unfolding load_scr
-returns-in-Refused c =
-    changed_refused _ _ c.judge_load_scr-v.ensures _ _ _ _ c.in-Refused.is c.number.ensures
+returns-in-Err c =
+    changed_refused _ _ c.judge_load_scr.ensures _ _ _ _ c.in-Err.is c.from.ensures
 
-pub returns-in-Accepted : goal.returns-in-Accepted
+pub returns-in-Ok : goal.returns-in-Ok
 unfolding load_scr
-returns-in-Accepted c =
-    changed_accepted _ _ c.judge_load_scr-v.ensures _ _ _ _ c.in-Accepted.is c.load.ensures
+returns-in-Ok c =
+    changed_accepted _ _ c.judge_load_scr.ensures _ _ _ _ c.in-Ok.is c.load.ensures

@@ -8,16 +8,16 @@ use Rattle.ulb_scr.proofs.ulb_save_scr.Goals as goal
 
 pub save_screen-requires : goal.save_screen-requires
 save_screen-requires c =
-    let r = ready_save_scr _ _ _ _ (sym c.judge_save_scr-v.ensures ∙ c.in-Accepted.is) in
+    let r = ready_save_scr _ _ _ _ (sym c.judge_save_scr.ensures ∙ c.in-Ok.is) in
     (r.file_is, shown_fits _ r.on_record r.ram_is c.screen_bank-page.ensures)
 
-pub returns-in-Refused : goal.returns-in-Refused
+pub returns-in-Err : goal.returns-in-Err
 unfolding save_scr
-returns-in-Refused c =
-    changed_refused _ _ c.judge_save_scr-v.ensures _ _ _ _ c.in-Refused.is c.number.ensures
+returns-in-Err c =
+    changed_refused _ _ c.judge_save_scr.ensures _ _ _ _ c.in-Err.is c.from.ensures
 
-pub returns-in-Accepted : goal.returns-in-Accepted
+pub returns-in-Ok : goal.returns-in-Ok
 unfolding save_scr
-returns-in-Accepted c =
-    changed_accepted _ _ c.judge_save_scr-v.ensures _ _ _ _ c.in-Accepted.is
+returns-in-Ok c =
+    changed_accepted _ _ c.judge_save_scr.ensures _ _ _ _ c.in-Ok.is
     (rw (c.save_screen.ensures, c.screen_bank-page.ensures))

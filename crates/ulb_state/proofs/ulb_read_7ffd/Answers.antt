@@ -7,15 +7,15 @@ use Rattle.contracts.proofs.Leaves.{told_refused, told_accepted}
 use Rattle.ulb_state.proofs.ulb_read_7ffd.Goals as goal
 
 pub fill_number-requires : goal.fill_number-requires
-fill_number-requires c = (ready_told _ _ _ (sym c.judge_told-v.ensures ∙ c.in-Accepted.is)).answer_is
+fill_number-requires c = (ready_told _ _ _ (sym c.judge_told.ensures ∙ c.in-Ok.is)).answer_is
 
-pub returns-in-Refused : goal.returns-in-Refused
+pub returns-in-Err : goal.returns-in-Err
 unfolding read7ffd
-returns-in-Refused c =
-    told_refused _ _ c.judge_told-v.ensures _ _ _ _ _ c.in-Refused.is c.refuse.ensures
+returns-in-Err c =
+    told_refused _ _ c.judge_told.ensures _ _ _ _ _ c.in-Err.is c.refuse.ensures
 
-pub returns-in-Accepted : goal.returns-in-Accepted
+pub returns-in-Ok : goal.returns-in-Ok
 unfolding read7ffd
-returns-in-Accepted c =
-    told_accepted _ _ c.judge_told-v.ensures _ _ _ _ _ c.in-Accepted.is c.fill_number.ensures
+returns-in-Ok c =
+    told_accepted _ _ c.judge_told.ensures _ _ _ _ _ c.in-Ok.is c.fill_number.ensures
     (refl)

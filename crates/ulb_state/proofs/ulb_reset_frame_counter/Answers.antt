@@ -7,15 +7,15 @@ use Rattle.contracts.proofs.Leaves.{changed_refused, changed_accepted}
 use Rattle.ulb_state.proofs.ulb_reset_frame_counter.Goals as goal
 
 pub encode-requires : goal.encode-requires
-encode-requires c = (ready_state _ _ (sym c.judge_state-v.ensures ∙ c.in-Accepted.is)).long
+encode-requires c = (ready_state _ _ (sym c.judge_state.ensures ∙ c.in-Ok.is)).long
 
-pub returns-in-Refused : goal.returns-in-Refused
+pub returns-in-Err : goal.returns-in-Err
 unfolding reset_frames
-returns-in-Refused c =
-    changed_refused _ _ c.judge_state-v.ensures _ _ _ _ c.in-Refused.is c.number.ensures
+returns-in-Err c =
+    changed_refused _ _ c.judge_state.ensures _ _ _ _ c.in-Err.is c.from.ensures
 
-pub returns-in-Accepted : goal.returns-in-Accepted
+pub returns-in-Ok : goal.returns-in-Ok
 unfolding reset_frames
-returns-in-Accepted c =
-    changed_accepted _ _ c.judge_state-v.ensures _ _ _ _ c.in-Accepted.is
+returns-in-Ok c =
+    changed_accepted _ _ c.judge_state.ensures _ _ _ _ c.in-Ok.is
     c.encode.ensures

@@ -7,19 +7,19 @@ use Rattle.contracts.proofs.Leaves.{repaged_refused, repaged_accepted}
 use Rattle.ulb_state.proofs.ulb_write_7ffd.Goals as goal
 
 pub encode-requires : goal.encode-requires
-encode-requires c = (ready_told _ _ _ (sym c.judge_told-v.ensures ∙ c.in-Accepted.is)).on_record.long
+encode-requires c = (ready_told _ _ _ (sym c.judge_told.ensures ∙ c.in-Ok.is)).on_record.long
 
 pub fill_number-requires : goal.fill_number-requires
-fill_number-requires c = (ready_told _ _ _ (sym c.judge_told-v.ensures ∙ c.in-Accepted.is)).answer_is
+fill_number-requires c = (ready_told _ _ _ (sym c.judge_told.ensures ∙ c.in-Ok.is)).answer_is
 
-pub returns-in-Refused : goal.returns-in-Refused
+pub returns-in-Err : goal.returns-in-Err
 unfolding write7ffd_call
-returns-in-Refused c =
-    repaged_refused _ _ c.judge_told-v.ensures _ _ _ _ _ _ c.in-Refused.is c.refuse.ensures
+returns-in-Err c =
+    repaged_refused _ _ c.judge_told.ensures _ _ _ _ _ _ c.in-Err.is c.refuse.ensures
 
-pub returns-in-Accepted : goal.returns-in-Accepted
+pub returns-in-Ok : goal.returns-in-Ok
 unfolding write7ffd_call
-returns-in-Accepted c =
-    repaged_accepted _ _ c.judge_told-v.ensures _ _ _ _ _ _ _ _ _ _ c.in-Accepted.is
+returns-in-Ok c =
+    repaged_accepted _ _ c.judge_told.ensures _ _ _ _ _ _ _ _ _ _ c.in-Ok.is
     c.write_7ffd-paged.ensures c.paged_code-code.ensures c.paging_after-paging.ensures
     refl c.encode.ensures c.fill_number.ensures

@@ -7,15 +7,15 @@ use Rattle.judgement.proofs.Accepted.{ready_write}
 use Rattle.ulb_write_internal.proofs.ulb_write_internal.Goals as goal
 
 pub write-requires : goal.write-requires
-write-requires c = (ready_write _ _ _ (sym c.judge_write-v.ensures ∙ c.in-Accepted.is)).ram_is
+write-requires c = (ready_write _ _ _ (sym c.judge_write.ensures ∙ c.in-Ok.is)).ram_is
 
-pub returns-in-Refused : goal.returns-in-Refused
+pub returns-in-Err : goal.returns-in-Err
 unfolding write_internal
-returns-in-Refused c =
-    changed_refused _ _ c.judge_write-v.ensures _ _ _ _ c.in-Refused.is c.number.ensures
+returns-in-Err c =
+    changed_refused _ _ c.judge_write.ensures _ _ _ _ c.in-Err.is c.from.ensures
 
-pub returns-in-Accepted : goal.returns-in-Accepted
+pub returns-in-Ok : goal.returns-in-Ok
 unfolding write_internal
-returns-in-Accepted c =
-    changed_accepted _ _ c.judge_write-v.ensures _ _ _ _ c.in-Accepted.is
+returns-in-Ok c =
+    changed_accepted _ _ c.judge_write.ensures _ _ _ _ c.in-Ok.is
     c.write.ensures
