@@ -1,56 +1,108 @@
 -- How a text is walked: the test of its opening, the end of a line, and that its lines are the first one and those behind it.
 -- Assumes nothing.
-use Prim.Native.Nat.{ℕ, suc, ◌+◌, ◌<◌, ◌≤◌}
-use mathlib.Core.Path.{◌≡◌, ap, sym, ◌∙◌}
+use Prim.Native.Nat.{ℕ, zero, suc, ◌+◌, ◌-◌, ◌<◌, ◌≤◌, min}
+use mathlib.Core.Path.{◌≡◌, refl, ap, sym, ◌∙◌}
 use mathlib.Core.Bool.{true, false, cond}
-use mathlib.Core.List.{List, [], ◌∷◌}
+use mathlib.Core.List.{List, [], ◌∷◌, ◌++◌}
 use native.Mathlib.Nat.{not-suc-le-zero}
-use native.Mathlib.Numerals.{add-one}
 use native.Mathlib.Omega.{arith}
-use borrow.Author.Tests.{eq-eqb, ne_eqb}
+use borrow.Author.Tests.{eq-eqb, ne_eqb, eqb-true}
 use lib.Dec.{eqb}
-use lib.ListN.{length, get_or, take, drop, drop_of_length-le}
-use lib.Seq.{drop-cons}
-use Rattle.laws.proofs.Cases.{by_eq}
-use Rattle.beam.specs.Decimal.{starts_with}
+use lib.ListN.{length, get_or, take, drop, length-append, drop_of_length-le, get_or-append}
+use lib.Seq.{drop-cons, take_all, drop-append_seam}
+use Rattle.std.specs.Prelude.{◌⊎◌, Option, Some, None, MatchOption, nat_eq}
+use Rattle.std.specs.Borrow.{Bor}
+use Rattle.std.specs.Option.{unwrap_or}
+use Rattle.std.specs.Cmp.Lexicographic.{pointwise, bytes_decides}
+use Rattle.std.proofs.Common.{inl, inr}
+use Rattle.std.proofs.lemmas.List.{take-append-le}
+use Rattle.laws.proofs.Cases.{by_eq, split}
 use Rattle.beam.specs.Meaning.{lines_of, in_front}
 use Rattle.beam.specs.Inner.{line_length}
 
--- the first i bytes are as asked
-module _ (text opening : List ℕ) (i : ℕ) (inv : starts_with (drop i opening) (drop i text) ≡ starts_with opening text) (h : i < length opening) where
-  pub short : length text ≤ i → false ≡ starts_with opening text
-  unfolding starts_with
-  short e = sym (sym inv ∙ rw (drop-cons opening i 0 h, drop_of_length-le text {i = i} e))
+none_left : (l : List ℕ) → length l ≡ 0 → l ≡ []
+none_left [] e = refl
+none_left (b ∷ bs) e = absurd (omega arith)
 
-  pub differs : i < length text → (get_or text i 0 ≡ get_or opening i 0 → ⊥) → false ≡ starts_with opening text
-  unfolding starts_with
-  differs k f = sym (sym inv ∙ rw (drop-cons opening i 0 h, drop-cons text i 0 k) (simp (ne_eqb (get_or text i 0) (get_or opening i 0) f)))
+-- a text's first newline ends its first line
+first_newline : (s : List ℕ) (k : ℕ) → ((j : ℕ) → j < k → get_or s j 0 ≡ 10 → ⊥) → (k < length s → get_or s k 0 ≡ 10)
+    → line_length s ≡ min k (length s)
+unfolding line_length
+first_newline [] k f g = omega arith
+first_newline (b ∷ bs) zero f g = simp (eq-eqb b 10 (g (omega arith))) (omega arith)
+first_newline (b ∷ bs) (suc k) f g =
+    let i : line_length bs ≡ min k (length bs) = first_newline bs k (λ j h. f (suc j) (omega arith)) (λ h. g (omega arith)) in
+    simp (ne_eqb b 10 (f 0 (omega arith))) (omega arith)
 
-  pub agrees : i < length text → get_or text i 0 ≡ get_or opening i 0 → starts_with (drop (i + 1) opening) (drop (i + 1) text) ≡ starts_with opening text
-  unfolding starts_with
-  agrees k e = sym (sym inv ∙ rw (drop-cons opening i 0 h, drop-cons text i 0 k, add-one) (simp (eq-eqb (get_or text i 0) (get_or opening i 0) e)))
+-- A part is cut off a text, behind its first newline or, where it has none, as a whole: so the kit's `split_inclusive` cuts.
+module _ (s part rest : List ℕ) (k : ℕ) (whole : s ≡ part ++ rest) (long : length part ≡ min (k + 1) (length s))
+    (others : (j d : ℕ) → 0 ≤ j → j < k → eqb (get_or s j d) 10 ≡ false) (found : k < length s → (d : ℕ) → eqb (get_or s k d) 10 ≡ true) where
+  before : (j : ℕ) → j < k → get_or s j 0 ≡ 10 → ⊥
+  before j h e = let t : eqb (get_or s j 0) 10 ≡ true = eq-eqb (get_or s j 0) 10 e in let f = others j 0 (omega arith) h in cc
 
-pub whole : (text opening : List ℕ) (i : ℕ) → starts_with (drop i opening) (drop i text) ≡ starts_with opening text → length opening ≤ i → true ≡ starts_with opening text
-unfolding starts_with
-whole text opening i inv h = sym (sym inv ∙ rw (drop_of_length-le opening {i = i} h))
+  newline : k < length s → get_or s k 0 ≡ 10
+  newline h = eqb-true (get_or s k 0) 10 (found h 0)
 
--- no newline stands from `from` up to i
-module _ (text : List ℕ) (from i : ℕ) (inv : from + line_length (drop from text) ≡ i + line_length (drop i text)) where
-  pub newline : i < length text → get_or text i 0 ≡ 10 → i ≡ from + line_length (drop from text)
-  unfolding line_length
-  newline h e =
-      let z : line_length (drop i text) ≡ 0 = rw (drop-cons text i 0 h) (simp (eq-eqb (get_or text i 0) 10 e)) in
-      omega arith
+  line_is : line_length s ≡ min k (length s)
+  line_is = first_newline s k before newline
 
-  pub passes : i < length text → (get_or text i 0 ≡ 10 → ⊥) → from + line_length (drop from text) ≡ (i + 1) + line_length (drop (i + 1) text)
-  unfolding line_length
-  passes h f =
-      let z : line_length (drop i text) ≡ suc (line_length (drop (suc i) text)) = rw (drop-cons text i 0 h) (simp (ne_eqb (get_or text i 0) 10 f)) in
-      rw add-one (omega arith)
+  front : (n : ℕ) → n ≤ length part → take n s ≡ take n part
+  front n h = ap (λ (t : List ℕ). take n t) whole ∙ take-append-le n part rest h
 
-  pub at_end_lem : length text ≤ i → i ≡ from + line_length (drop from text)
-  unfolding line_length
-  at_end_lem h = let z : line_length (drop i text) ≡ 0 = rw (drop_of_length-le text {i = i} h) in omega arith
+  read : (n : ℕ) → n < length part → get_or s n 0 ≡ get_or part n 0
+  read n h = ap (λ (t : List ℕ). get_or t n 0) whole ∙ get_or-append part rest 0 n h
+
+  pub rest_is : rest ≡ drop (suc (line_length s)) s
+  rest_is =
+      split (suc k) (length s)
+      (λ h. let n : suc (line_length s) ≡ length part = omega (arith, line_is) in
+      sym (ap (λ (j : ℕ). drop j s) n ∙ ap (λ (t : List ℕ). drop (length part) t) whole ∙ drop-append_seam part rest))
+      (λ h. none_left rest (omega (arith, ap length whole, length-append part rest))
+      ∙ sym (drop_of_length-le s {i = suc (line_length s)} (omega (arith, line_is))))
+
+  -- what is left of the part without the newline that it may end with
+  pub first_line : 0 < length s → (line : List ℕ)
+      → ((get_or part (length part - 1) 0 ≡ 10) × (line ≡ take (length part - 1) part)) ⊎ ((get_or part (length part - 1) 0 ≡ 10 → ⊥) × (line ≡ part))
+      → line ≡ take (line_length s) s
+  first_line p line (inl a) =
+      split (suc k) (length s)
+      (λ h. let n : length part - 1 ≡ line_length s = omega (arith, line_is) in
+      a.1 ∙ ap (λ (j : ℕ). take j part) n ∙ sym (front (line_length s) (omega (arith, line_is))))
+      (λ h. let n : length part - 1 < k = omega arith in
+      let z : ⊥ = before (length part - 1) n (read (length part - 1) (omega arith) ∙ a.0) in absurd z)
+  first_line p line (inr a) =
+      split (suc k) (length s)
+      (λ h. let n : length part - 1 ≡ k = omega arith in
+      let z : ⊥ = a.0 (sym (read (length part - 1) (omega arith)) ∙ ap (λ (j : ℕ). get_or s j 0) n ∙ newline h) in absurd z)
+      (λ h. a.1 ∙ sym (front (line_length s) (omega (arith, line_is)) ∙ take_all (line_length s) part (omega (arith, line_is))))
+
+-- what the kit's `strip_suffix` leaves of a part: without its last byte if that is a newline, else all of it
+pub stripped : (o : Option (Bor (List ℕ))) (part : Bor (List ℕ)) → 0 < length part.now
+    → MatchOption o (pointwise nat_eq (drop (length part.now - 1) part.now) (10 ∷ []) ≡ false)
+    (λ x. (pointwise nat_eq (drop (length part.now - 1) part.now) (10 ∷ []) ≡ true) × (x.now ≡ take (length part.now - 1) part.now) × (length x.now + 1 ≡ length part.now))
+    → ((get_or part.now (length part.now - 1) 0 ≡ 10) × ((unwrap_or o part).now ≡ take (length part.now - 1) part.now))
+    ⊎ ((get_or part.now (length part.now - 1) 0 ≡ 10 → ⊥) × ((unwrap_or o part).now ≡ part.now))
+stripped o part h m = by o m where
+  last : drop (length part.now - 1) part.now ≡ get_or part.now (length part.now - 1) 0 ∷ []
+  last =
+      drop-cons part.now (length part.now - 1) 0 (omega arith)
+      ∙ ap (λ (t : List ℕ). get_or part.now (length part.now - 1) 0 ∷ t) (drop_of_length-le part.now {i = suc (length part.now - 1)} (omega arith))
+
+  by : (o : Option (Bor (List ℕ))) → MatchOption o (pointwise nat_eq (drop (length part.now - 1) part.now) (10 ∷ []) ≡ false)
+      (λ x. (pointwise nat_eq (drop (length part.now - 1) part.now) (10 ∷ []) ≡ true) × (x.now ≡ take (length part.now - 1) part.now) × (length x.now + 1 ≡ length part.now))
+      → ((get_or part.now (length part.now - 1) 0 ≡ 10) × ((unwrap_or o part).now ≡ take (length part.now - 1) part.now))
+      ⊎ ((get_or part.now (length part.now - 1) 0 ≡ 10 → ⊥) × ((unwrap_or o part).now ≡ part.now))
+  by (Some x) m =
+      let e : drop (length part.now - 1) part.now ≡ 10 ∷ [] = (bytes_decides (drop (length part.now - 1) part.now) (10 ∷ [])).0 m.0 in
+      let n : get_or part.now (length part.now - 1) 0 ≡ 10 = cc last in
+      inl (n, m.1)
+  by None m =
+      inr (
+        (λ e. let t : pointwise nat_eq (drop (length part.now - 1) part.now) (10 ∷ []) ≡ true =
+            (bytes_decides (drop (length part.now - 1) part.now) (10 ∷ [])).1 (last ∙ ap (λ (x : ℕ). x ∷ []) e) in
+            cc),
+        refl,
+      )
 
 pub line_in : (s : List ℕ) → line_length s ≤ length s
 unfolding line_length

@@ -16,37 +16,37 @@ use Rattle.machine.specs.declared.ZXMachine.{ZXMachine}
 use Rattle.machine.specs.declared.ZXSpecs.{ZXSpecs}
 use Rattle.machine.specs.Numbers.{specs_of}
 use Rattle.machine.proofs.Numbered.{regular}
-use Rattle.beam.specs.declared.Line.{Line}
-use Rattle.beam.specs.declared.Line.TheVariants.{Clock, Bad}
+use Rattle.std.specs.Prelude.{Option, Some, None}
+use Rattle.beam.specs.declared.Asked.{Asked}
 use Rattle.beam.specs.Decimal.{decimal, value_from, value, same_text}
-use Rattle.beam.specs.Meaning.{clock_meaning}
+use Rattle.beam.specs.Meaning.{asked, clock_meaning}
 use Rattle.beam.proofs.Spelling.{decimal_small, decimal_large, length_some, all_digits, first_digit, value_grows, value_back, same_text_lem, text_same}
 
 -- a text that spells nothing
-pub no_number : (m : ZXMachine) (text : List ℕ) → (text ≡ decimal (value text) → ⊥) → Bad ≡ clock_meaning m text
+pub no_number : (m : ZXMachine) (text : List ℕ) → (text ≡ decimal (value text) → ⊥) → None ≡ clock_meaning m text
 unfolding clock_meaning
 no_number m text f =
-    by_bool (λ (l : Line). Bad ≡ l) (same_text text (decimal (value text)) && ltb (value text) (specs_of m).frame)
+    by_bool (λ (l : Option Asked). None ≡ l) (same_text text (decimal (value text)) && ltb (value text) (specs_of m).frame)
     (λ e. absurd (f (same_text_lem text (decimal (value text)) (and_left _ _ e))))
     (λ e. refl)
 
 -- the clock is past the frame
-pub past_frame : (m : ZXMachine) (text : List ℕ) → (specs_of m).frame ≤ value text → Bad ≡ clock_meaning m text
+pub past_frame : (m : ZXMachine) (text : List ℕ) → (specs_of m).frame ≤ value text → None ≡ clock_meaning m text
 unfolding clock_meaning
 past_frame m text h =
-    by_bool (λ (l : Line). Bad ≡ l) (same_text text (decimal (value text)) && ltb (value text) (specs_of m).frame)
+    by_bool (λ (l : Option Asked). None ≡ l) (same_text text (decimal (value text)) && ltb (value text) (specs_of m).frame)
     (λ e. let z : ⊥ = omega (arith, ltb-true (value text) (specs_of m).frame (and_right (same_text text (decimal (value text))) (ltb (value text) (specs_of m).frame) e)) in absurd z)
     (λ e. refl)
 
 -- the clock is below the frame
-pub in_frame_lem : (m : ZXMachine) (text : List ℕ) (v : ℕ) → text ≡ decimal v → v < (specs_of m).frame → Clock m v ≡ clock_meaning m text
+pub in_frame_lem : (m : ZXMachine) (text : List ℕ) (v : ℕ) → text ≡ decimal v → v < (specs_of m).frame → Some (asked m v) ≡ clock_meaning m text
 unfolding clock_meaning
 in_frame_lem m text v e h =
     let w : value text ≡ v = ap value e ∙ value_back v in
     let s : same_text text (decimal (value text)) ≡ true = rw (w, e) (text_same (decimal v)) in
     let l : ltb (value text) (specs_of m).frame ≡ true = rw w (lt-ltb v (specs_of m).frame h) in
     let t : (same_text text (decimal (value text)) && ltb (value text) (specs_of m).frame) ≡ true = and_both _ _ s l in
-    rw t (ap (λ (x : ℕ). Clock m x) (sym w))
+    rw t (ap (λ (x : ℕ). Some (asked m x)) (sym w))
 
 -- every frame is short enough that no sum of the loop can wrap
 pub frame_short : (m : ZXMachine) (s : ZXSpecs) → s ≡ specs_of m → s.frame < 2 ^ 17
@@ -62,11 +62,11 @@ pub record Read (text : List ℕ) (v i : ℕ) : Type 0 where
 pub read_none : (text : List ℕ) → Read text 0 0
 read_none text = record { within = omega arith; to_come = refl; start = λ e. refl; spelt = λ h. absurd (not-suc-le-zero h) }
 
-pub empty : (m : ZXMachine) (text : List ℕ) → length text ≡ 0 → Bad ≡ clock_meaning m text
+pub empty : (m : ZXMachine) (text : List ℕ) → length text ≡ 0 → None ≡ clock_meaning m text
 empty m text h = no_number m text (λ e. let z : ⊥ = omega (arith, ap length e, length_some (value text)) in absurd z)
 
 -- a text that starts with a zero and has more is no spelling
-pub zero_first : (m : ZXMachine) (text : List ℕ) → 1 < length text → get_or text 0 0 ≡ 48 → Bad ≡ clock_meaning m text
+pub zero_first : (m : ZXMachine) (text : List ℕ) → 1 < length text → get_or text 0 0 ≡ 48 → None ≡ clock_meaning m text
 zero_first m text h z = no_number m text (λ e. by_value (value text) e) where
   by_value : (n : ℕ) → text ≡ decimal n → ⊥
   by_value n e =
@@ -75,7 +75,7 @@ zero_first m text h z = no_number m text (λ e. by_value (value text) e) where
       (λ l. omega (arith, ap length e, ap length (decimal_small n (omega arith))))
 
 -- a byte that is no digit
-pub no_digit : (m : ZXMachine) (text : List ℕ) (i : ℕ) → i < length text → ((48 ≤ get_or text i 0) × (get_or text i 0 ≤ 57) → ⊥) → Bad ≡ clock_meaning m text
+pub no_digit : (m : ZXMachine) (text : List ℕ) (i : ℕ) → i < length text → ((48 ≤ get_or text i 0) × (get_or text i 0 ≤ 57) → ⊥) → None ≡ clock_meaning m text
 no_digit m text i h f = no_number m text (λ e. f (rw (sym e) at (all_digits (value text) i (rw e at h))))
 
 same_byte : (v b : ℕ) → v ≡ 0 → 48 ≤ b → 48 + (10 * v + (b - 48)) ≡ b
@@ -123,17 +123,11 @@ module _ (text : List ℕ) (v i : ℕ) (r : Read text v i) where
       }
 
 module _ (m : ZXMachine) (text : List ℕ) (v i : ℕ) (r : Read text v i) where
-  pub low : i < length text → get_or text i 0 < 48 → Bad ≡ clock_meaning m text
-  low h l = no_digit m text i h (λ d. omega (arith, d.0))
-
-  pub high : i < length text → 57 < get_or text i 0 → Bad ≡ clock_meaning m text
-  high h l = no_digit m text i h (λ d. omega (arith, d.1))
-
-  pub large : (frame : ℕ) → frame ≡ (specs_of m).frame → frame ≤ v → Bad ≡ clock_meaning m text
+  pub large : (frame : ℕ) → frame ≡ (specs_of m).frame → frame ≤ v → None ≡ clock_meaning m text
   large frame e h = past_frame m text (omega (arith, value_grows v (drop i text), r.to_come))
 
-  pub ended : (frame : ℕ) → frame ≡ (specs_of m).frame → length text ≤ i → 0 < length text → v < frame → Clock m v ≡ clock_meaning m text
+  pub ended : (frame : ℕ) → frame ≡ (specs_of m).frame → length text ≤ i → 0 < length text → v < frame → Some (asked m v) ≡ clock_meaning m text
   ended frame e h p l = in_frame_lem m text v (sym (r.spelt (omega arith) ∙ take_all i text h)) (omega arith)
 
-  pub ended_past : (frame : ℕ) → frame ≡ (specs_of m).frame → length text ≤ i → frame ≤ v → Bad ≡ clock_meaning m text
+  pub ended_past : (frame : ℕ) → frame ≡ (specs_of m).frame → length text ≤ i → frame ≤ v → None ≡ clock_meaning m text
   ended_past frame e h k = large frame e k

@@ -22,10 +22,10 @@ use Rattle.machine.proofs.Why.{by_why}
 use Rattle.machine.proofs.Bounds.{delay_small, blocks_small, Within, border_within}
 use Rattle.beam.specs.declared.Question.{Question}
 use Rattle.beam.specs.declared.Question.TheVariants.{Beam, Held}
-use Rattle.beam.specs.declared.Line.{Line}
-use Rattle.beam.specs.declared.Line.TheVariants.{Clock, Bad}
+use Rattle.std.specs.Prelude.{Option, Some, None}
+use Rattle.beam.specs.declared.Asked.{Asked}
 use Rattle.beam.specs.Decimal.{decimal}
-use Rattle.beam.specs.Meaning.{model, line_text, line_meaning, lines_of}
+use Rattle.beam.specs.Meaning.{asked, model, line_text, line_meaning, lines_of}
 use Rattle.beam.specs.Printed.{border_line, border_pixel, flag, fields, spaced, outside, held_line, answer_to, line_report}
 use Rattle.beam.specs.Whole.{title, lines_report, report_of, room}
 use Rattle.beam.specs.Inner.{line_length}
@@ -107,7 +107,7 @@ answer_length Held m t h = held_length m t h
 
 -- a good line prints at most 31 bytes and has at least four
 good_room : (question : Question) (m : ZXMachine) (t number w : ℕ) → t < (specs_of m).frame → length (line_text m t) ≤ w
-    → length (line_report question number (Clock m t)) ≤ 8 * w
+    → length (line_report question number (Some (asked m t))) ≤ 8 * w
 good_room question m t number w h k =
     let d = model_digits m in
     omega (
@@ -121,18 +121,18 @@ good_room question m t number w h k =
       length_some t,
     )
 
-bad_room : (question : Question) (number w : ℕ) → number < 10 ^ 5 → 1 ≤ w → length (line_report question number Bad) ≤ 8 * w
+bad_room : (question : Question) (number w : ℕ) → number < 10 ^ 5 → 1 ≤ w → length (line_report question number None) ≤ 8 * w
 bad_room question number w h k = omega (arith, length-append (decimal number) (10 ∷ []), length_below 4 number h)
 
 -- what a line prints has room in eight times the bytes that it takes of the input
 pub line_room : (question : Question) (line : List ℕ) (number w : ℕ) → number < 10 ^ 5 → 1 ≤ w → length line ≤ w
     → length (line_report question number (line_meaning line)) ≤ 8 * w
 line_room question line number w h k l = by_meaning (line_meaning line) refl where
-  by_meaning : (x : Line) → line_meaning line ≡ x → length (line_report question number x) ≤ 8 * w
-  by_meaning (Clock m t) e =
-      let i = means_in line m t e in
-      good_room question m t number w i.1 (rw i.0 at l)
-  by_meaning Bad e = bad_room question number w h k
+  by_meaning : (x : Option Asked) → line_meaning line ≡ x → length (line_report question number x) ≤ 8 * w
+  by_meaning (Some x) e =
+      let i = means_in line x.machine x.clock e in
+      good_room question x.machine x.clock number w i.1 (rw i.0 at l)
+  by_meaning None e = bad_room question number w h k
 
 no_lines : (s : List ℕ) → length s < 1 → lines_of s ≡ []
 unfolding lines_of

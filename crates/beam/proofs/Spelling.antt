@@ -1,7 +1,7 @@
 -- The decimal spelling of a number: its two equations, its digits, its length, and that it reads back as the number.
 -- Assumes nothing.
 use Prim.Native.Nat.{ℕ, zero, suc, ◌+◌, ◌-◌, ◌*◌, ◌/◌, ◌%◌, ◌^◌, ◌<◌, ◌≤◌}
-use mathlib.Core.Path.{◌≡◌, refl, ap, ◌∙◌}
+use mathlib.Core.Path.{◌≡◌, refl, ap, sym, ◌∙◌}
 use mathlib.Core.Bool.{true, cond}
 use mathlib.Core.List.{List, [], ◌∷◌, ◌++◌}
 use native.Mathlib.Nat.{pow-suc, div-lt_iff_lt-mul, zero-lt-suc, not-suc-le-zero}
@@ -10,6 +10,8 @@ use borrow.Author.Tests.{lt-ltb, le-ltb, eq-eqb, eqb-true}
 use lib.Dec.{eqb}
 use lib.ListN.{length, get_or, length-append, get_or-append}
 use lib.Seq.{get_or_at}
+use Rattle.std.specs.Fmt.{decimal as printed}
+use Rattle.std.proofs.lemmas.Fmt.{decimal_by_steps}
 use Rattle.laws.proofs.Cases.{split, and_left, and_right, and_both}
 use Rattle.beam.specs.Decimal.{digits, decimal, value_from, value, same_text}
 
@@ -42,6 +44,11 @@ by_tens P small large n = go (suc n) n (omega arith) where
   go : (most n : ℕ) → n < most → P n
   go zero n h = absurd (not-suc-le-zero h)
   go (suc most) n h = split 10 n (λ l. large n l (go most (n / 10) (omega arith))) (λ l. small n l)
+
+-- the kit spells a number so
+pub decimal_same : (n : ℕ) → n < 2 ^ 64 → printed n ≡ decimal n
+decimal_same =
+    decimal_by_steps (λ n ds. ds ≡ decimal n) (λ n h. sym (decimal_small n h)) (λ n ds h e. rw (e, decimal_large n h))
 
 pub length_some : (n : ℕ) → 0 < length (decimal n)
 length_some =

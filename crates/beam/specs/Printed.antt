@@ -1,6 +1,6 @@
 -- Document 01, program `beamat`, and request Q-6, program `heldat`: what is printed for a line of the input.
 -- Assumes nothing.
-use Rattle.std.specs.Prelude.{ℕ, Bool, cond, List, [], ◌∷◌, ◌++◌}
+use Rattle.std.specs.Prelude.{ℕ, Bool, cond, List, [], ◌∷◌, ◌++◌, Option, Some, None}
 use Rattle.machine.specs.declared.ZXMachine.{ZXMachine}
 use Rattle.machine.specs.declared.Delay.{Delay}
 use Rattle.machine.specs.declared.Delay.TheVariants.{Held, Outside}
@@ -10,8 +10,7 @@ use Rattle.machine.specs.Numbers.{specs_of}
 use Rattle.machine.specs.Timing.{delay_at, delay, first_column, blocks_at, border_at, frame_end, interrupt}
 use Rattle.beam.specs.declared.Question.{Question}
 use Rattle.beam.specs.declared.Question.TheVariants as asks
-use Rattle.beam.specs.declared.Line.{Line}
-use Rattle.beam.specs.declared.Line.TheVariants.{Clock, Bad}
+use Rattle.beam.specs.declared.Asked.{Asked}
 use Rattle.beam.specs.Decimal.{decimal}
 use Rattle.beam.specs.Meaning.{model}
 
@@ -60,6 +59,6 @@ answer_to asks.Beam m clock = spaced (fields m clock)
 answer_to asks.Held m clock = held_line clock (delay_at (specs_of m) clock)
 
 -- "prints .. for each line its fields"; "`?` gives a bad line's number": the bytes 63 and 32, the number, and a newline; "bad lines .. as `beamat`"
-abbrev pub line_report : Question → ℕ → Line → List ℕ
-line_report question number (Clock m clock) = decimal (model m) ++ answer_to question m clock
-line_report question number Bad = 63 ∷ 32 ∷ (decimal number ++ (10 ∷ []))
+abbrev pub line_report : Question → ℕ → Option Asked → List ℕ
+line_report question number (Some asked) = decimal (model asked.machine) ++ answer_to question asked.machine asked.clock
+line_report question number None = 63 ∷ 32 ∷ (decimal number ++ (10 ∷ []))

@@ -1,10 +1,9 @@
 -- Document 01, program `beamat`, and request Q-6, program `heldat`: the whole report of an input, and what `report` answers.
 -- Assumes nothing.
-use Rattle.std.specs.Prelude.{ℕ, ◌+◌, ◌*◌, cond, List, [], ◌∷◌, ◌++◌, ltb, leb, length, drop}
+use Rattle.std.specs.Prelude.{ℕ, ◌+◌, ◌*◌, cond, List, [], ◌∷◌, ◌++◌, ltb, leb, length, drop, Result, Ok, Err}
 use Rattle.beam.specs.declared.Question.{Question}
 use Rattle.beam.specs.declared.Question.TheVariants.{Beam, Held}
-use Rattle.beam.specs.declared.Reported.{Reported}
-use Rattle.beam.specs.declared.Reported.TheVariants.{Done, NoRoom}
+use Rattle.beam.specs.declared.NoRoom.{NoRoom}
 use Rattle.beam.specs.Meaning.{line_meaning, lines_of}
 use Rattle.beam.specs.Printed.{line_report}
 
@@ -31,8 +30,8 @@ abbrev pub room : Question → List ℕ → ℕ
 room question input = cond (ltb 65536 (length input)) (length long) (length (title question) + 8 * length input)
 
 -- what `report` answers, and what it leaves in the list that it was lent: the report, and behind it what was there
-unfoldable pub reported : Question → List ℕ → List ℕ → Reported
-reported question input out = cond (leb (room question input) (length out)) (Done (length (report_of question input))) NoRoom
+unfoldable pub reported : Question → List ℕ → List ℕ → Result ℕ NoRoom
+reported question input out = cond (leb (room question input) (length out)) (Ok (length (report_of question input))) (Err (record {}))
 
 unfoldable pub reported_into : Question → List ℕ → List ℕ → List ℕ
 reported_into question input out =

@@ -6,12 +6,13 @@
 ghost use Rattle.std.specs.Prelude.{◌≡◌, [], ◌∷◌, ◌++◌, ◌+◌, ◌*◌, ◌-◌, ◌≤◌, ◌<◌, length, drop};
 ghost use Rattle.machine.specs.Numbers.{specs_of};
 ghost use Rattle.machine.specs.Timing.{delay_at, first_column};
-ghost use Rattle.beam.specs.Decimal.{decimal, starts_with};
+ghost use Rattle.beam.specs.Decimal.{decimal};
 ghost use Rattle.beam.specs.Meaning.{model, clock_meaning, line_meaning, lines_of};
-ghost use Rattle.beam.specs.Printed.{flag, fields, spaced, held_line, answer_to, line_report};
-ghost use Rattle.beam.specs.Whole.{title, lines_report, reported, reported_into};
-ghost use Rattle.beam.specs.Inner.{line_length, Put};
+ghost use Rattle.beam.specs.Printed.{spaced, held_line, answer_to, line_report};
+ghost use Rattle.beam.specs.Whole.{lines_report, reported, reported_into};
+ghost use Rattle.beam.specs.Inner.{Put};
 
+use itoa::Buffer;
 use machine::{BorderPlace, Delay, ZXMachine};
 
 // What is asked of each clock: where the beam is (program `beamat`), or whether the Z80 is held there and why (program `heldat`).
@@ -21,138 +22,127 @@ pub enum Question {
     Held,
 }
 
-// What a line of the input asks for: a machine and a clock of its frame.
-#[derive(Drop)]
-pub enum Line {
-    Clock(ZXMachine, u32),
-    Bad,
+impl Question {
+    ghost use Rattle.beam.specs.Whole.{title};
+
+    fn title(self) -> &'static [u8]
+        ensures { result.now ≡ title self }
+    {
+        match self {
+            Question::Beam => b"ULB beam 1\n",
+            Question::Held => b"ULB held 1\n",
+        }
+    }
 }
 
-// The report's length, or that the lent slice has less room than asked.
-#[derive(Drop)]
-pub enum Reported {
-    Done(usize),
-    NoRoom,
+// What a line of the input asks about: a clock of a machine's frame.
+#[derive(Clone, Copy)]
+pub struct Asked {
+    pub machine: ZXMachine,
+    pub clock: u32,
 }
 
-// Puts the report of an input at the start of out. The room asked is 11 bytes and 8 for each byte of the input, or 7 where
-// the input is too long; where out has less, it stays as it was.
-pub fn report(question: Question, input: &[u8], out: &mut [u8]) -> Reported
+impl Asked {
+    ghost use Rattle.beam.specs.Meaning.{model};
+    ghost use Rattle.beam.specs.Printed.{fields};
+
+    // The machine's number.
+    fn model(self) -> u32
+        ensures { result ≡ model self.machine }
+    {
+        match self.machine {
+            ZXMachine::Sinclair48K => 48,
+            ZXMachine::Sinclair128K => 128,
+        }
+    }
+
+    fn fields(self) -> [u32; 8]
+        ensures { result ≡ fields self.machine self.clock }
+    {
+        let Asked { machine, clock } = self;
+        let held = machine.contention(clock).clocks();
+        let blocks = machine.blocks_count(clock);
+        let on = u32::from(machine::int_active(clock));
+        match machine.next_border_pixel(clock) {
+            BorderPlace::At { line, pixel } => [
+                clock,
+                held,
+                blocks.lines,
+                blocks.columns,
+                line,
+                pixel,
+                0,
+                on,
+            ],
+            BorderPlace::FrameEnd => [clock, held, blocks.lines, blocks.columns, 0, 0, 1, on],
+        }
+    }
+}
+
+// The lent slice has less room than the report asks for.
+#[derive(Clone, Copy, Debug, PartialEq, Eq)]
+pub struct NoRoom;
+
+// Puts the report of an input at the start of out, and answers its length. The room asked is 11 bytes and 8 for each byte of
+// the input, or 7 where the input is too long; where out has less, it stays as it was.
+pub fn report(question: Question, input: &[u8], out: &mut [u8]) -> Result<usize, NoRoom>
     ensures value { result ≡ reported question input.now out.old }
     ensures out_after { out.new ≡ reported_into question input.now out.old }
 {
     if 65536 < input.len() {
         if out.len() < 7 {
-            return Reported::NoRoom;
+            return Err(NoRoom);
         }
         let end = put(b"! long\n", out, 0);
-        return Reported::Done(end);
+        return Ok(end);
     }
     let room = 11 + 8 * input.len();
     if out.len() < room {
-        return Reported::NoRoom;
+        return Err(NoRoom);
     }
-    let at = put_title(question, out);
+    let at = put(question.title(), out, 0);
     let end = put_lines(question, input, out, at);
-    Reported::Done(end)
+    Ok(end)
 }
 
-fn put_title(question: Question, out: &mut [u8]) -> usize
-    requires { 11 ≤ length out.old }
-    ensures { Put out.old 0 (title question) result out.new }
-{
-    match question {
-        Question::Beam => put(b"ULB beam 1\n", out, 0),
-        Question::Held => put(b"ULB held 1\n", out, 0),
-    }
-}
-
-// What a line means.
-pub fn line_meaning(line: &[u8]) -> Line
+// What a line means; none is a bad line.
+pub fn line_meaning(line: &[u8]) -> Option<Asked>
     ensures { result ≡ line_meaning line.now }
 {
-    if starts_with(line, b"48 ") {
-        let clock = &line[3..];
+    if let Some(clock) = line.strip_prefix(b"48 ") {
         return clock_meaning(ZXMachine::Sinclair48K, clock);
     }
-    if starts_with(line, b"128 ") {
-        let clock = &line[4..];
-        return clock_meaning(ZXMachine::Sinclair128K, clock);
-    }
-    Line::Bad
-}
-
-fn starts_with(text: &[u8], opening: &[u8]) -> bool
-    ensures { result ≡ starts_with opening.now text.now }
-{
-    let mut i = 0;
-    while i < opening.len() {
-        if text.len() <= i {
-            return false;
-        }
-        if text[i] != opening[i] {
-            return false;
-        }
-        i += 1;
-    }
-    true
+    let clock = line.strip_prefix(b"128 ")?;
+    clock_meaning(ZXMachine::Sinclair128K, clock)
 }
 
 // The clock that a text spells: digits only, no zero in front of others, below the frame. Past the frame it stops
 // reading, so that no sum can wrap.
-fn clock_meaning(m: ZXMachine, text: &[u8]) -> Line
-    ensures { result ≡ clock_meaning m text.now }
+fn clock_meaning(machine: ZXMachine, text: &[u8]) -> Option<Asked>
+    ensures { result ≡ clock_meaning machine text.now }
 {
-    let s = m.specs();
-    let frame = s.frame;
-    if text.len() == 0 {
-        return Line::Bad;
+    let frame = machine.specs().frame;
+    if text.is_empty() {
+        return None;
     }
-    if 1 < text.len() {
-        if text[0] == b'0' {
-            return Line::Bad;
-        }
+    if 1 < text.len() && text[0] == b'0' {
+        return None;
     }
-    let mut v: u32 = 0;
-    let mut i = 0;
-    while i < text.len() {
-        let b = text[i];
-        if b < b'0' {
-            return Line::Bad;
+    let mut clock: u32 = 0;
+    for &digit in text {
+        if !digit.is_ascii_digit() || frame <= clock {
+            return None;
         }
-        if b'9' < b {
-            return Line::Bad;
-        }
-        if frame <= v {
-            return Line::Bad;
-        }
-        let d = b - b'0';
-        v = 10 * v + d as u32;
-        i += 1;
+        clock = 10 * clock + u32::from(digit - b'0');
     }
-    if v < frame {
-        Line::Clock(m, v)
+    if clock < frame {
+        Some(Asked { machine, clock })
     } else {
-        Line::Bad
+        None
     }
 }
 
-// Where the line that starts at `from` ends: at its newline, or at the text's end.
-fn line_end(text: &[u8], from: usize) -> usize
-    requires { from ≤ length text.now }
-    ensures { result ≡ from + line_length (drop from text.now) }
-{
-    let mut i = from;
-    while i < text.len() {
-        if text[i] == b'\n' {
-            return i;
-        }
-        i += 1;
-    }
-    i
-}
-
-// What is printed for every line of the input.
+// What is printed for every line of the input. A newline belongs to the line that it ends, so a final one starts no further line.
 fn put_lines(question: Question, input: &[u8], out: &mut [u8], at: usize) -> usize
     requires input_len_bound { length input.now ≤ 65536 }
     requires input_in_bounds { at + 8 * length input.now ≤ length out.old }
@@ -160,13 +150,10 @@ fn put_lines(question: Question, input: &[u8], out: &mut [u8], at: usize) -> usi
 {
     let mut number: u32 = 1;
     let mut next = at;
-    let mut from = 0;
-    while from < input.len() {
-        let end = line_end(input, from);
-        let line = &input[from..end];
+    for ended in input.split_inclusive(|&byte| byte == b'\n') {
+        let line = ended.strip_suffix(b"\n").unwrap_or(ended);
         next = put_line(question, line, number, out, next);
         number += 1;
-        from = end + 1;
     }
     next
 }
@@ -176,36 +163,29 @@ fn put_line(question: Question, line: &[u8], number: u32, out: &mut [u8], at: us
     ensures { Put out.old at (line_report question number (line_meaning line.now)) result out.new }
 {
     match line_meaning(line) {
-        Line::Clock(m, clock) => put_answer(question, m, clock, out, at),
-        Line::Bad => put_bad(number, out, at),
+        Some(asked) => put_answer(question, asked, out, at),
+        None => put_bad(number, out, at),
     }
 }
 
 // The machine's number, and behind it what the question asks for.
-fn put_answer(question: Question, m: ZXMachine, clock: u32, out: &mut [u8], at: usize) -> usize
-    requires { at + length (decimal (model m) ++ answer_to question m clock) ≤ length out.old }
-    ensures { Put out.old at (decimal (model m) ++ answer_to question m clock) result out.new }
+fn put_answer(question: Question, asked: Asked, out: &mut [u8], at: usize) -> usize
+    requires { at + length (decimal (model asked.machine) ++ answer_to question asked.machine asked.clock) ≤ length out.old }
+    ensures { Put out.old at (decimal (model asked.machine) ++ answer_to question asked.machine asked.clock) result out.new }
 {
-    let next = put_decimal(model_of(m), out, at);
+    let next = put_decimal(asked.model(), out, at);
     match question {
-        Question::Beam => put_beam(m, clock, out, next),
-        Question::Held => put_held(m, clock, out, next),
+        Question::Beam => put_spaced(&asked.fields(), out, next),
+        Question::Held => put_held(asked, out, next),
     }
 }
 
-fn put_beam(m: ZXMachine, clock: u32, out: &mut [u8], at: usize) -> usize
-    requires { at + length (spaced (fields m clock)) ≤ length out.old }
-    ensures { Put out.old at (spaced (fields m clock)) result out.new }
+fn put_held(asked: Asked, out: &mut [u8], at: usize) -> usize
+    requires { at + length (held_line asked.clock (delay_at (specs_of asked.machine) asked.clock)) ≤ length out.old }
+    ensures { Put out.old at (held_line asked.clock (delay_at (specs_of asked.machine) asked.clock)) result out.new }
 {
-    let numbers = fields_of(m, clock);
-    put_spaced(&numbers, out, at)
-}
-
-fn put_held(m: ZXMachine, clock: u32, out: &mut [u8], at: usize) -> usize
-    requires { at + length (held_line clock (delay_at (specs_of m) clock)) ≤ length out.old }
-    ensures { Put out.old at (held_line clock (delay_at (specs_of m) clock)) result out.new }
-{
-    match m.contention(clock) {
+    let Asked { machine, clock } = asked;
+    match machine.contention(clock) {
         Delay::Held { line, x, clocks } => {
             let numbers = held_fields(clock, line, x, clocks);
             put_spaced(&numbers, out, at)
@@ -234,53 +214,14 @@ fn put_bad(number: u32, out: &mut [u8], at: usize) -> usize
     last + 1
 }
 
-fn model_of(m: ZXMachine) -> u32
-    ensures { result ≡ model m }
-{
-    match m {
-        ZXMachine::Sinclair48K => 48,
-        ZXMachine::Sinclair128K => 128,
-    }
-}
-
-fn flag_of(on: bool) -> u32
-    ensures { result ≡ flag on }
-{
-    if on { 1 } else { 0 }
-}
-
-fn fields_of(m: ZXMachine, clock: u32) -> [u32; 8]
-    ensures { result ≡ fields m clock }
-{
-    let delay = m.contention(clock);
-    let held = delay.clocks();
-    let blocks = m.blocks_count(clock);
-    let on = flag_of(machine::int_active(clock));
-    match m.next_border_pixel(clock) {
-        BorderPlace::At { line, pixel } => [
-            clock,
-            held,
-            blocks.lines,
-            blocks.columns,
-            line,
-            pixel,
-            0,
-            on,
-        ],
-        BorderPlace::FrameEnd => [clock, held, blocks.lines, blocks.columns, 0, 0, 1, on],
-    }
-}
-
 // Numbers, each behind a space, and a newline.
 fn put_spaced(numbers: &[u32], out: &mut [u8], at: usize) -> usize
     requires { at + length (spaced numbers.now) ≤ length out.old }
     ensures { Put out.old at (spaced numbers.now) result out.new }
 {
     let mut next = at;
-    let mut i = 0;
-    while i < numbers.len() {
-        next = put_field(numbers[i], out, next);
-        i += 1;
+    for &number in numbers {
+        next = put_field(number, out, next);
     }
     out[next] = b'\n';
     next + 1
@@ -294,18 +235,12 @@ fn put_field(n: u32, out: &mut [u8], at: usize) -> usize
     put_decimal(n, out, at + 1)
 }
 
-// The decimal spelling of n: what stands before its last digit, and that digit.
 fn put_decimal(n: u32, out: &mut [u8], at: usize) -> usize
     requires { at + length (decimal n) ≤ length out.old }
     ensures { Put out.old at (decimal n) result out.new }
 {
-    if n < 10 {
-        out[at] = b'0' + n as u8;
-        return at + 1;
-    }
-    let last = put_decimal(n / 10, out, at);
-    out[last] = b'0' + (n % 10) as u8;
-    last + 1
+    let mut buffer = Buffer::new();
+    put(buffer.format(n).as_bytes(), out, at)
 }
 
 // A text as it stands.
@@ -313,10 +248,7 @@ fn put(text: &[u8], out: &mut [u8], at: usize) -> usize
     requires { at + length text.now ≤ length out.old }
     ensures { Put out.old at text.now result out.new }
 {
-    let mut i = 0;
-    while i < text.len() {
-        out[at + i] = text[i];
-        i += 1;
-    }
-    at + i
+    let end = at + text.len();
+    out[at..end].copy_from_slice(text);
+    end
 }

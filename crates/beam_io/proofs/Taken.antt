@@ -7,7 +7,7 @@ use mathlib.Core.List.{List}
 use native.Mathlib.Omega.{arith}
 use lib.ListN.{length, take, replicate, length-take, length-replicate}
 use Rattle.beam.specs.declared.Question.{Question}
-use Rattle.beam.specs.declared.Reported.TheVariants.{NoRoom}
+use Rattle.std.specs.Prelude.{Err}
 use Rattle.beam.specs.Whole.{reported}
 use Rattle.beam.proofs.Reporting.{always_room}
 
@@ -19,7 +19,7 @@ zeros_long k = rw length-replicate (omega arith)
 
 -- of a buffer that began as zeros some bytes are taken, and zeros are lent
 pub zeros_room : (question : Question) (n lent given : ℕ) (now : List ℕ) → length now ≡ length (replicate {A = ℕ} given 0)
-    → NoRoom ≡ reported question (take n now) (replicate {A = ℕ} lent 0) → given ≤ 65537 → 524299 ≤ lent → ⊥
+    → Err (record {}) ≡ reported question (take n now) (replicate {A = ℕ} lent 0) → given ≤ 65537 → 524299 ≤ lent → ⊥
 zeros_room question n lent given now e r g h =
     let t : length (take n now) ≤ given = taken_within n given now _ e (length-replicate {A = ℕ} given 0) in
     let z : lent ≤ length (replicate {A = ℕ} lent 0) = zeros_long lent in

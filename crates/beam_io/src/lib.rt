@@ -5,7 +5,7 @@
 
 ghost use Rattle.std.specs.Prelude.{◌≤◌, length, IfOk};
 
-use beam::{Question, Reported};
+use beam::{NoRoom, Question};
 use std::io;
 use std::io::Read;
 
@@ -16,12 +16,13 @@ pub fn answer(rt: &impl Print, input: &mut impl Read, question: Question) -> io:
     let mut out = [0u8; 524299];
     let n = read_full(input, &mut bytes)?;
     match beam::report(question, &bytes[..n], &mut out) {
-        Reported::Done(k) => rt.write_all(&out[..k]),
-        Reported::NoRoom => unreachable!(),
+        Ok(k) => rt.write_all(&out[..k]),
+        Err(NoRoom) => unreachable!(),
     }
 }
 
 // Reads until buf is full or the input ends, and answers how many bytes it put at the start of buf.
+// Kept: std's `read_exact` does not say how many bytes came where the input ends, and its `read_to_end` takes heap.
 fn read_full(input: &mut impl Read, buf: &mut [u8]) -> io::Result<usize>
     ensures { IfOk result (λ n. n ≤ length buf.new) }
 {

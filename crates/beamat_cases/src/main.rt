@@ -8,39 +8,40 @@ use std::rt::Files;
 use std::{fs, io};
 
 fn run(rt: &(impl Files + Print + Eprint), name: &str) -> io::Result<()> {
-    rt.write_all(b"# ")?;
-    rt.write_all(name.as_bytes())?;
-    rt.write_all(b"\n")?;
+    println!(rt; "# {name}")?;
     ask(rt, name, Question::Beam)?;
     ask(rt, name, Question::Held)
 }
 
 fn ask(rt: &(impl Files + Print + Eprint), name: &str, question: Question) -> io::Result<()> {
-    let opened = fs::open(rt, name);
-    if opened.is_err() {
-        let error = opened.unwrap_err();
-        return eprintln!(rt; "{name}: {error}");
-    }
-    let mut file = opened.unwrap();
+    let mut file = match fs::open(rt, name) {
+        Ok(file) => file,
+        Err(error) => return eprintln!(rt; "{name}: {error}"),
+    };
     beam_io::answer(rt, &mut file, question)
 }
 
 fn main(rt: HostRuntime) -> io::Result<()> {
-    run(&rt, "empty")?;
-    run(&rt, "newline")?;
-    run(&rt, "empty_line")?;
-    run(&rt, "no_final_newline")?;
-    run(&rt, "two_final_newlines")?;
-    run(&rt, "leading_zeros")?;
-    run(&rt, "spaces")?;
-    run(&rt, "frames")?;
-    run(&rt, "machines")?;
-    run(&rt, "signs")?;
-    run(&rt, "carriage_return")?;
-    run(&rt, "large")?;
-    run(&rt, "other_bytes")?;
-    run(&rt, "readings")?;
-    run(&rt, "numbers")?;
-    run(&rt, "full")?;
-    run(&rt, "over")
+    for name in [
+        "empty",
+        "newline",
+        "empty_line",
+        "no_final_newline",
+        "two_final_newlines",
+        "leading_zeros",
+        "spaces",
+        "frames",
+        "machines",
+        "signs",
+        "carriage_return",
+        "large",
+        "other_bytes",
+        "readings",
+        "numbers",
+        "full",
+        "over",
+    ] {
+        run(&rt, name)?;
+    }
+    Ok(())
 }

@@ -3,7 +3,7 @@
 // Where its definitions stand: specs/Edge.antt.
 #![tactic(auto)]
 
-ghost use Rattle.std.specs.Prelude.{◌≡◌, ◌≤◌, length};
+ghost use Rattle.std.specs.Prelude.{◌≡◌, ◌*◌, ◌≤◌, length};
 ghost use Rattle.machine.specs.Numbers.{specs_of};
 ghost use Rattle.machine.specs.Timing.{border_at};
 ghost use Rattle.machine.specs.Limits.{border_length};
@@ -12,26 +12,35 @@ ghost use Rattle.border.specs.Edge.{filled, edge_of, inked, finished};
 use machine::{BorderPlace, ZXMachine};
 
 // The border's beam: the colour that it paints in, whether this frame is painted to its end, and its position in pixel pairs.
-#[derive(Drop)]
+#[derive(Clone, Copy)]
 pub struct Beam {
     pub colour: u8,
     pub blocked: bool,
     pub pairs: u16,
 }
 
-// Pixels from `from` up to `to` in one colour.
+impl Beam {
+    // The pixel that it paints next.
+    fn pixel(self) -> usize
+        ensures { result ≡ 2 * self.pairs }
+    {
+        2 * usize::from(self.pairs)
+    }
+}
+
+// Pixels from `from` up to `to` in one colour, which are none where `from` is not below `to`.
+#[tactic(auto, using(crate::proofs::Fills::filled_none, crate::proofs::Fills::filled_part))]
 fn fill(border: &mut [u8], from: usize, to: usize, colour: u8)
     requires { to ≤ length border.old }
     ensures { border.new ≡ filled from to colour border.old }
 {
-    let mut i = from;
-    while i < to {
-        border[i] = colour;
-        i += 1;
+    if from < to {
+        border[from..to].fill(colour);
     }
 }
 
 // A border write at a clock: what the beam has passed is painted in the old colour, and it goes on in the new one.
+#[tactic(auto, using(machine::proofs::Bounds::at_within), unfolding(crate::specs::Edge::inked, crate::specs::Edge::inked_at))]
 pub fn set_border(
     beam: Beam,
     machine: ZXMachine,
@@ -42,15 +51,10 @@ pub fn set_border(
     requires { length border.old ≡ border_length }
     ensures { edge_of result border.new ≡ inked (border_at (specs_of machine) clocks) colour (edge_of beam border.old) }
 {
-    let pairs = beam.pairs;
     if beam.blocked {
-        return Beam {
-            colour,
-            blocked: true,
-            pairs,
-        };
+        return Beam { colour, ..beam };
     }
-    let from = 2 * (pairs as usize);
+    let from = beam.pixel();
     match machine.next_border_pixel(clocks) {
         BorderPlace::At { line, pixel } => {
             let to = 320 * line + pixel;
@@ -73,24 +77,17 @@ pub fn set_border(
 }
 
 // A frame's closing: the rest of the border is painted, and the beam goes back to the first pixel.
+#[tactic(auto, unfolding(crate::specs::Edge::finished))]
 pub fn new_frame(beam: Beam, border: &mut [u8]) -> Beam
     requires { length border.old ≡ border_length }
     ensures { edge_of result border.new ≡ finished (edge_of beam border.old) }
 {
-    let colour = beam.colour;
-    let pairs = beam.pairs;
-    if beam.blocked {
-        return Beam {
-            colour,
-            blocked: false,
-            pairs: 0,
-        };
+    if !beam.blocked {
+        fill(border, beam.pixel(), machine::BORDER_LENGTH, beam.colour);
     }
-    let from = 2 * (pairs as usize);
-    fill(border, from, machine::BORDER_LENGTH, colour);
     Beam {
-        colour,
         blocked: false,
         pairs: 0,
+        ..beam
     }
 }

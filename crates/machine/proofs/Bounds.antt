@@ -1,6 +1,6 @@
 -- How large the readings of a clock can be, over any machine's numbers.
 -- Assumes nothing.
-use mathlib.Core.Path.{◌≡◌, refl, sym, subst}
+use mathlib.Core.Path.{◌≡◌, refl, subst}
 use Prim.Native.Nat.{ℕ, ◌+◌, ◌-◌, ◌*◌, ◌/◌, ◌%◌, ◌<◌, ◌≤◌}
 use native.Mathlib.Omega.{arith}
 use Rattle.laws.proofs.Cases.{by_lt, by_le}
@@ -71,7 +71,3 @@ border_within s t =
 -- the same of a place that is known to be a line and a pixel
 pub at_within : (s : ZXSpecs) (t line pixel : ℕ) → border_at s t ≡ At line pixel → (line < 240) × (pixel ≤ 320) × (pixel % 2 ≡ 0)
 at_within s t line pixel e = subst Within e (border_within s t)
-
--- what the code asks of a count
-pub small_count : (s : ZXSpecs) (t : ℕ) (b : BlocksCount) → b ≡ blocks_at s t → Small b
-small_count s t b e = subst Small (sym e) (blocks_small s t)

@@ -1,4 +1,3 @@
-pub mod Rows
 pub mod Numbered
 pub mod Pattern
 pub mod Why

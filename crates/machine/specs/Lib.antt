@@ -4,3 +4,4 @@ pub mod Timing
 pub mod Why
 pub mod Contended
 pub mod Pages
+pub mod Paces

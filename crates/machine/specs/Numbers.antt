@@ -1,6 +1,7 @@
 -- Document 01, "Numbers of the two machines": the table.
 -- Assumes nothing.
-use Rattle.std.specs.Prelude.{◌≡◌, ◌+◌, ◌*◌, ◌<◌, ◌≤◌, ◌^◌}
+use Rattle.std.specs.Prelude.{◌≡◌, ◌+◌, ◌*◌, ◌<◌, ◌≤◌, ◌^◌, refl}
+use Rattle.std.proofs.Common.{lit<, lit≤}
 use Rattle.machine.specs.declared.ZXMachine.{ZXMachine}
 use Rattle.machine.specs.declared.ZXMachine.TheVariants.{Sinclair48K, Sinclair128K}
 use Rattle.machine.specs.declared.ZXSpecs.{ZXSpecs}
@@ -23,3 +24,8 @@ pub record Regular (s : ZXSpecs) : Type 0 where
   pub blocks_in_frame : s.block + 191 * s.line + 124 < s.frame
   pub border_in_frame : s.border + 239 * s.line + 160 < s.frame
   pub short : s.frame < 2 ^ 17
+
+-- Each machine's numbers are regular: a line a machine.
+pub regular : (m : ZXMachine) → Regular (specs_of m)
+regular Sinclair48K = record { wide = lit≤ tt; narrow = lit< tt; whole = refl; held_in_frame = lit≤ tt; blocks_in_frame = lit< tt; border_in_frame = lit< tt; short = lit< tt }
+regular Sinclair128K = record { wide = lit≤ tt; narrow = lit< tt; whole = refl; held_in_frame = lit≤ tt; blocks_in_frame = lit< tt; border_in_frame = lit< tt; short = lit< tt }

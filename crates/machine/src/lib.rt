@@ -1,11 +1,13 @@
 // What it is: the timing of the two machines, after rustzx's machine/mod.rs and specs.rs: delay, block and border position, interrupt, contended pages and ports, memory sizes.
 // What it promises: at every 32-bit clock each function gives exactly what document 01's "Numbers of the two machines" says; none asks anything of its caller.
-// Where its definitions stand: specs/Numbers.antt (the table of numbers), specs/Limits.antt (lengths and limits that are no machine's own), specs/Timing.antt (the readings of a clock), specs/Contended.antt (pages and ports), specs/Why.antt (what the delay's answer says).
+// Where its definitions stand: specs/Numbers.antt (the table of numbers), specs/Limits.antt (lengths and limits that are no machine's own), specs/Timing.antt (the readings of a clock), specs/Paces.antt (moments that come line by line), specs/Contended.antt (pages and ports), specs/Why.antt (what the delay's answer says).
 #![tactic(auto)]
 
 ghost use Rattle.std.specs.Prelude.{◌≡◌, ◌/◌, leb};
-ghost use Rattle.machine.specs.Numbers.{specs_of, Regular};
+ghost use Rattle.machine.specs.Numbers.{specs_of, Regular, regular};
+ghost use Rattle.machine.specs.declared.ZXMachine.TheVariants.{Sinclair48K, Sinclair128K};
 ghost use Rattle.machine.specs.Timing.{entry, delay_at, clocks_held, blocks_capped, blocks_at, block_position, border_capped, border_at, border_position, frame_end, interrupt};
+ghost use Rattle.machine.specs.Paces.{Paced, come};
 ghost use Rattle.machine.specs.Contended.{port_contended, bank_contended};
 
 #[derive(Clone, Copy)]
@@ -49,6 +51,38 @@ const SPECS_128K: ZXSpecs = ZXSpecs {
     rom: 32768,
 };
 
+// One machine's numbers as a type, so that a function over them is compiled once a machine, and divides by a constant. `regular` is all
+// that its sums ask of the numbers.
+pub trait Numbers {
+    ghost use Rattle.machine.specs.declared.ZXSpecs.{ZXSpecs};
+
+    const SPECS: ZXSpecs;
+
+    ghost SPECS: { ZXSpecs };
+
+    ghost regular: { Regular SPECS };
+}
+
+pub struct Numbers48K;
+
+pub struct Numbers128K;
+
+impl Numbers for Numbers48K {
+    const SPECS: ZXSpecs = SPECS_48K;
+
+    ghost SPECS = { specs_of Sinclair48K };
+
+    ghost regular = { regular Sinclair48K };
+}
+
+impl Numbers for Numbers128K {
+    const SPECS: ZXSpecs = SPECS_128K;
+
+    ghost SPECS = { specs_of Sinclair128K };
+
+    ghost regular = { regular Sinclair128K };
+}
+
 // Bytes of a picture, of the border, and of a page; clocks of the longest wait.
 pub const PICTURE_LENGTH: usize = 49152;
 
@@ -60,6 +94,7 @@ pub const LONGEST_WAIT: u32 = 65535;
 
 // The delay at a clock, and why. In the picture: its line, document 01's x, and the clocks for which the Z80 is held, which may
 // be none. Outside the picture, which x of 128 or more is too, nothing is fetched and nothing held.
+// Kept: 02's Q-6 says "The answer is an enum of `machine`"; None would not say why.
 #[derive(Clone, Copy)]
 pub enum Delay {
     Held { line: u32, x: u32, clocks: u32 },
@@ -102,13 +137,13 @@ impl ZXMachine {
         }
     }
 
-    // The delay at a clock of the frame, and why. Each arm names its numbers, so that the compiler divides by a constant.
+    // The delay at a clock of the frame, and why. Here and below each arm is compiled with its machine's numbers, and divides by a constant.
     pub fn contention(self, clocks: u32) -> Delay
         ensures { result ≡ delay_at (specs_of self) clocks }
     {
         match self {
-            ZXMachine::Sinclair48K => delay_by(SPECS_48K, clocks),
-            ZXMachine::Sinclair128K => delay_by(SPECS_128K, clocks),
+            ZXMachine::Sinclair48K => delay_by::<Numbers48K>(clocks),
+            ZXMachine::Sinclair128K => delay_by::<Numbers128K>(clocks),
         }
     }
 
@@ -116,8 +151,8 @@ impl ZXMachine {
         ensures { result ≡ blocks_at (specs_of self) clocks }
     {
         match self {
-            ZXMachine::Sinclair48K => blocks_by(SPECS_48K, clocks),
-            ZXMachine::Sinclair128K => blocks_by(SPECS_128K, clocks),
+            ZXMachine::Sinclair48K => blocks_by::<Numbers48K>(clocks),
+            ZXMachine::Sinclair128K => blocks_by::<Numbers128K>(clocks),
         }
     }
 
@@ -125,12 +160,13 @@ impl ZXMachine {
         ensures { result ≡ border_at (specs_of self) clocks }
     {
         match self {
-            ZXMachine::Sinclair48K => border_by(SPECS_48K, clocks),
-            ZXMachine::Sinclair128K => border_by(SPECS_128K, clocks),
+            ZXMachine::Sinclair48K => border_by::<Numbers48K>(clocks),
+            ZXMachine::Sinclair128K => border_by::<Numbers128K>(clocks),
         }
     }
 
     // The block position as one number.
+    #[tactic(auto, using(crate::proofs::Bounds::position_small))]
     pub fn block_position(self, clocks: u32) -> u32
         ensures { result ≡ block_position (specs_of self) clocks }
     {
@@ -139,6 +175,7 @@ impl ZXMachine {
     }
 
     // The border position as one number, 76,800 at frame end.
+    #[tactic(auto, using(crate::proofs::Bounds::at_within))]
     pub fn border_position(self, clocks: u32) -> u32
         ensures { result ≡ border_position (specs_of self) clocks }
     {
@@ -153,28 +190,46 @@ impl ZXMachine {
         ensures { result ≡ frame_end (specs_of self) clocks }
     {
         match self {
-            ZXMachine::Sinclair48K => end_reached_by(SPECS_48K, clocks),
-            ZXMachine::Sinclair128K => end_reached_by(SPECS_128K, clocks),
+            ZXMachine::Sinclair48K => end_reached_by::<Numbers48K>(clocks),
+            ZXMachine::Sinclair128K => end_reached_by::<Numbers128K>(clocks),
         }
     }
 
     // Whether so many blocks have come: the clock of the last of them is asked for, which takes no division by the line.
+    #[tactic(auto, using(crate::proofs::Reached::blocks_come, crate::specs::Numbers::regular))]
     pub fn has_reached_block(self, blocks: u32, clocks: u32) -> bool
         ensures { result ≡ leb blocks (block_position (specs_of self) clocks) }
     {
         match self {
-            ZXMachine::Sinclair48K => block_reached_by(SPECS_48K, blocks, clocks),
-            ZXMachine::Sinclair128K => block_reached_by(SPECS_128K, blocks, clocks),
+            ZXMachine::Sinclair48K => reached_by::<Numbers48K, 32, 4, 6144>(
+                SPECS_48K.block,
+                blocks,
+                clocks,
+            ),
+            ZXMachine::Sinclair128K => reached_by::<Numbers128K, 32, 4, 6144>(
+                SPECS_128K.block,
+                blocks,
+                clocks,
+            ),
         }
     }
 
     // The same of the border's pixel pairs.
+    #[tactic(auto, using(crate::proofs::Reached::pairs_come, crate::specs::Numbers::regular))]
     pub fn has_reached_pair(self, pairs: u32, clocks: u32) -> bool
         ensures { result ≡ leb pairs (border_position (specs_of self) clocks / 2) }
     {
         match self {
-            ZXMachine::Sinclair48K => pair_reached_by(SPECS_48K, pairs, clocks),
-            ZXMachine::Sinclair128K => pair_reached_by(SPECS_128K, pairs, clocks),
+            ZXMachine::Sinclair48K => reached_by::<Numbers48K, 160, 1, 38400>(
+                SPECS_48K.border,
+                pairs,
+                clocks,
+            ),
+            ZXMachine::Sinclair128K => reached_by::<Numbers128K, 160, 1, 38400>(
+                SPECS_128K.border,
+                pairs,
+                clocks,
+            ),
         }
     }
 
@@ -194,12 +249,12 @@ impl ZXMachine {
     }
 }
 
-fn delay_by(s: ZXSpecs, clocks: u32) -> Delay
-    requires { Regular s }
-    ensures { result ≡ delay_at s clocks }
+#[tactic(auto, unfolding(crate::specs::Timing::delay_at, crate::specs::Timing::delay_in_line))]
+fn delay_by<M: Numbers>(clocks: u32) -> Delay
+    ensures { result ≡ delay_at M.SPECS clocks }
 {
-    let origin = s.contention;
-    let line = s.line;
+    let origin = M::SPECS.contention;
+    let line = M::SPECS.line;
     if clocks < origin {
         return Delay::Outside;
     }
@@ -228,12 +283,12 @@ fn held_by(x: u32) -> u32
     if place < 6 { 6 - place } else { 0 }
 }
 
-fn blocks_by(s: ZXSpecs, clocks: u32) -> BlocksCount
-    requires { Regular s }
-    ensures { result ≡ blocks_at s clocks }
+#[tactic(auto, unfolding(crate::specs::Timing::blocks_at, crate::specs::Timing::blocks_from, crate::specs::Timing::blocks_capped))]
+fn blocks_by<M: Numbers>(clocks: u32) -> BlocksCount
+    ensures { result ≡ blocks_at M.SPECS clocks }
 {
-    let origin = s.block;
-    let line = s.line;
+    let origin = M::SPECS.block;
+    let line = M::SPECS.line;
     if clocks < origin {
         return BlocksCount {
             lines: 0,
@@ -243,106 +298,79 @@ fn blocks_by(s: ZXSpecs, clocks: u32) -> BlocksCount
     let c = clocks - origin;
     let row = c / line;
     let column = c % line / 4 + 1;
-    if 32 < column {
-        let next = row + 1;
-        blocks_in(next, 0)
+    let (row, column) = if 32 < column {
+        (row + 1, 0)
     } else {
-        blocks_in(row, column)
-    }
-}
-
-fn border_by(s: ZXSpecs, clocks: u32) -> BorderPlace
-    requires { Regular s }
-    ensures { result ≡ border_at s clocks }
-{
-    let origin = s.border;
-    let line = s.line;
-    if clocks < origin {
-        return BorderPlace::At { line: 0, pixel: 0 };
-    }
-    let c = clocks - origin;
-    let row = c / line;
-    let pixel = 2 * (c % line + 1);
-    if 320 < pixel {
-        let next = row + 1;
-        border_in(next, 0)
-    } else {
-        border_in(row, pixel)
-    }
-}
-
-// Block n, counted from 1, is in line (n - 1) / 32, and there comes four clocks after the one before it.
-fn block_reached_by(s: ZXSpecs, blocks: u32, clocks: u32) -> bool
-    requires { Regular s }
-    ensures { result ≡ leb blocks (block_position s clocks) }
-{
-    let origin = s.block;
-    let line = s.line;
-    if blocks == 0 {
-        return true;
-    }
-    if 6144 < blocks {
-        return false;
-    }
-    let last = blocks - 1;
-    let due = origin + last / 32 * line + last % 32 * 4;
-    due <= clocks
-}
-
-// Pixel pair n, counted from 1, is in line (n - 1) / 160, and there comes a clock after the one before it.
-fn pair_reached_by(s: ZXSpecs, pairs: u32, clocks: u32) -> bool
-    requires { Regular s }
-    ensures { result ≡ leb pairs (border_position s clocks / 2) }
-{
-    let origin = s.border;
-    let line = s.line;
-    if pairs == 0 {
-        return true;
-    }
-    if 38400 < pairs {
-        return false;
-    }
-    let last = pairs - 1;
-    let due = origin + last / 160 * line + last % 160;
-    due <= clocks
-}
-
-fn end_reached_by(s: ZXSpecs, clocks: u32) -> bool
-    requires { Regular s }
-    ensures { result ≡ frame_end s clocks }
-{
-    let origin = s.border;
-    let line = s.line;
-    let end = origin + 239 * line + 160;
-    end <= clocks
-}
-
-// Line 192 or later is the end.
-fn blocks_in(line: u32, column: u32) -> BlocksCount
-    ensures { result ≡ blocks_capped line column }
-{
-    if 192 <= line {
+        (row, column)
+    };
+    if 192 <= row {
         BlocksCount {
             lines: 192,
             columns: 0,
         }
     } else {
         BlocksCount {
-            lines: line,
+            lines: row,
             columns: column,
         }
     }
 }
 
-// Line 240 or later is frame end.
-fn border_in(line: u32, pixel: u32) -> BorderPlace
-    ensures { result ≡ border_capped line pixel }
+#[tactic(auto, unfolding(crate::specs::Timing::border_at, crate::specs::Timing::border_from, crate::specs::Timing::border_capped))]
+fn border_by<M: Numbers>(clocks: u32) -> BorderPlace
+    ensures { result ≡ border_at M.SPECS clocks }
 {
-    if 240 <= line {
+    let origin = M::SPECS.border;
+    let line = M::SPECS.line;
+    if clocks < origin {
+        return BorderPlace::At { line: 0, pixel: 0 };
+    }
+    let c = clocks - origin;
+    let row = c / line;
+    let pixel = 2 * (c % line + 1);
+    let (row, pixel) = if 320 < pixel {
+        (row + 1, 0)
+    } else {
+        (row, pixel)
+    };
+    if 240 <= row {
         BorderPlace::FrameEnd
     } else {
-        BorderPlace::At { line, pixel }
+        BorderPlace::At { line: row, pixel }
     }
+}
+
+// Whether so many of TOTAL moments have come, PER_LINE of them in a line and EACH clocks apart, the first at the origin. Moment n, counted
+// from 1, is in line (n - 1) / PER_LINE.
+#[tactic(auto, using(crate::proofs::Reached::moment_reached, crate::proofs::Reached::moments_few))]
+fn reached_by<M: Numbers, const PER_LINE: u32, const EACH: u32, const TOTAL: u32>(
+    origin: u32,
+    count: u32,
+    clocks: u32,
+) -> bool
+    requires { Paced PER_LINE EACH TOTAL M.SPECS.line origin }
+    ensures { result ≡ leb count (come PER_LINE EACH TOTAL M.SPECS.line origin clocks) }
+{
+    let line = M::SPECS.line;
+    if count == 0 {
+        return true;
+    }
+    if TOTAL < count {
+        return false;
+    }
+    let last = count - 1;
+    let due = origin + last / PER_LINE * line + last % PER_LINE * EACH;
+    due <= clocks
+}
+
+#[tactic(auto, using(crate::proofs::Rising::end_is))]
+fn end_reached_by<M: Numbers>(clocks: u32) -> bool
+    ensures { result ≡ frame_end M.SPECS clocks }
+{
+    let origin = M::SPECS.border;
+    let line = M::SPECS.line;
+    let end = origin + 239 * line + 160;
+    end <= clocks
 }
 
 // The interrupt is on in the first clocks of a frame.

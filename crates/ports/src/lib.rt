@@ -4,7 +4,7 @@
 #![tactic(auto)]
 
 ghost use Rattle.std.specs.Prelude.{◌≡◌, ◌+◌, ◌<◌, length, cond};
-ghost use Rattle.machine.specs.Numbers.{specs_of, Regular};
+ghost use Rattle.machine.specs.Numbers.{specs_of};
 ghost use Rattle.ports.specs.Devices.{extender_of, ay_of, joystick_of, mouse_of, rows_of, devices_of, flags_of, devices_length};
 ghost use Rattle.ports.specs.Keys.{selected, row_in, keys_read};
 ghost use Rattle.ports.specs.Order.{with_joystick, with_ay, with_mouse, read_order};
@@ -12,7 +12,7 @@ ghost use Rattle.ports.specs.Hearers.{port_hearers, hearers, heard_code, hearers
 ghost use Rattle.offsets.specs.Offset.{line_start, attribute_start};
 ghost use Rattle.ports.specs.Floating.{floating_in, floating_place, floating_address};
 
-use machine::{ZXMachine, ZXSpecs};
+use machine::{Numbers, Numbers48K, Numbers128K, ZXMachine};
 
 // Bytes of the lent device record.
 pub const DEVICES_LENGTH: usize = 35;
@@ -331,22 +331,22 @@ pub fn written_code(w: Written, paging: u8) -> u8
     }
 }
 
-// What the ULA fetches at a clock of the frame. Each arm names its machine, so that the compiler divides by a constant.
+// What the ULA fetches at a clock of the frame. Each arm is compiled with its machine's numbers, and divides by a constant.
 pub fn floating_place(m: ZXMachine, clock: u32) -> FloatingPlace
     ensures { result ≡ floating_place (specs_of m) clock }
 {
     match m {
-        ZXMachine::Sinclair48K => place_by(ZXMachine::Sinclair48K.specs(), clock),
-        ZXMachine::Sinclair128K => place_by(ZXMachine::Sinclair128K.specs(), clock),
+        ZXMachine::Sinclair48K => place_by::<Numbers48K>(clock),
+        ZXMachine::Sinclair128K => place_by::<Numbers128K>(clock),
     }
 }
 
-fn place_by(s: ZXSpecs, clock: u32) -> FloatingPlace
-    requires { Regular s }
-    ensures { result ≡ floating_place s clock }
+#[tactic(auto, unfolding(crate::specs::Floating::floating_place))]
+fn place_by<M: Numbers>(clock: u32) -> FloatingPlace
+    ensures { result ≡ floating_place M.SPECS clock }
 {
-    let origin = s.block;
-    let line = s.line;
+    let origin = M::SPECS.block;
+    let line = M::SPECS.line;
     if clock < origin {
         return FloatingPlace::Idle;
     }

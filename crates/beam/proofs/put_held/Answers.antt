@@ -8,4 +8,4 @@ use Rattle.beam.proofs.put_held.Goals as goal
 
 pub returns-in-Outside : goal.returns-in-Outside
 returns-in-Outside c =
-    told_put (held_line c.args.clock) _ _ (sym c.in-Outside.is ∙ c.contention.ensures) (put_then c.put_field-next.ensures c.put.ensures)
+    told_put (held_line c.args.asked.clock) _ _ (sym c.in-Outside.is ∙ c.contention.ensures) (put_then c.put_field-next.ensures c.put.ensures)

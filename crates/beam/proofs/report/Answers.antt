@@ -22,6 +22,6 @@ returns-then-out-room c =
 pub returns : goal.returns
 returns c =
     let w =
-    short_done c.args.question c.args.input.now c.args.out.now (omega arith) (omega arith) _ _ _ _ c.put_title-at.ensures
+    short_done c.args.question c.args.input.now c.args.out.now (omega arith) (omega arith) _ _ _ _ (rw c.title.ensures at c.put-at.ensures)
     c.put_lines-end.ensures in
     record { value = w.0; out_after = w.1 }
