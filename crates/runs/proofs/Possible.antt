@@ -9,7 +9,7 @@ use native.Mathlib.Omega.{arith}
 use lib.Dec.{eqb}
 use lib.ListN.{length}
 use borrow.Author.Tests.{eqb-true, eqb-false, ltb-false}
-use Rattle.std.specs.Prelude.{Result, Ok, Err}
+use Rattle.std.specs.Prelude.{Result as StdResult, Ok, Err}
 use Rattle.machine.specs.declared.ZXMachine.{ZXMachine}
 use Rattle.machine.specs.Limits.{longest_wait}
 use Rattle.record.specs.declared.Bus.{Bus}
@@ -36,7 +36,7 @@ ram_stays m [] w i = refl
 ram_stays m (o ∷ os) w i = ram_stays m os (does m o w) i.1 ∙ op_ram m o w.core i.0
 
 timed_ram : (f : ZXMachine → Part) (value : ZXMachine → Core → ℕ) (l : Lent) (answer : List ℕ) → ((m : ZXMachine) (c : Core) → AllInCall m (f m c))
-    → (v : Result Bus Refusal) → (timed_call f value l answer v).slices.ram ≡ l.ram
+    → (v : StdResult Bus Refusal) → (timed_call f value l answer v).slices.ram ≡ l.ram
 unfolding timed_call
 timed_ram f value l answer i (Err e) = refl
 timed_ram f value l answer i (Ok bus) =
