@@ -1,8 +1,8 @@
--- How a text is walked: the test of its opening, the end of a line, and that its lines are the first one and those behind it.
+-- How a text is walked: what the kit cuts off it is its first line, and its lines are that one and those behind it.
 -- Assumes nothing.
 use Prim.Native.Nat.{ℕ, zero, suc, ◌+◌, ◌-◌, ◌<◌, ◌≤◌, min}
 use mathlib.Core.Path.{◌≡◌, refl, ap, sym, ◌∙◌}
-use mathlib.Core.Bool.{true, false, cond}
+use mathlib.Core.Bool.{Bool, true, false, cond}
 use mathlib.Core.List.{List, [], ◌∷◌, ◌++◌}
 use native.Mathlib.Nat.{not-suc-le-zero}
 use native.Mathlib.Omega.{arith}
@@ -18,7 +18,11 @@ use Rattle.std.proofs.Common.{inl, inr}
 use Rattle.std.proofs.lemmas.List.{take-append-le}
 use Rattle.laws.proofs.Cases.{by_eq, split}
 use Rattle.beam.specs.Meaning.{lines_of, in_front}
-use Rattle.beam.specs.Inner.{line_length}
+
+-- how many bytes stand before a text's first newline
+unfoldable pub line_length : List ℕ → ℕ
+line_length [] = 0
+line_length (b ∷ bs) = cond (eqb b 10) 0 (suc (line_length bs))
 
 none_left : (l : List ℕ) → length l ≡ 0 → l ≡ []
 none_left [] e = refl
@@ -33,6 +37,11 @@ first_newline (b ∷ bs) zero f g = simp (eq-eqb b 10 (g (omega arith))) (omega 
 first_newline (b ∷ bs) (suc k) f g =
     let i : line_length bs ≡ min k (length bs) = first_newline bs k (λ j h. f (suc j) (omega arith)) (λ h. g (omega arith)) in
     simp (ne_eqb b 10 (f 0 (omega arith))) (omega arith)
+
+-- what is left of a part without the newline that it may end with
+abbrev Stripped : List ℕ → List ℕ → Type 0
+Stripped part line =
+    ((get_or part (length part - 1) 0 ≡ 10) × (line ≡ take (length part - 1) part)) ⊎ ((get_or part (length part - 1) 0 ≡ 10 → ⊥) × (line ≡ part))
 
 -- A part is cut off a text, behind its first newline or, where it has none, as a whole: so the kit's `split_inclusive` cuts.
 module _ (s part rest : List ℕ) (k : ℕ) (whole : s ≡ part ++ rest) (long : length part ≡ min (k + 1) (length s))
@@ -60,10 +69,7 @@ module _ (s part rest : List ℕ) (k : ℕ) (whole : s ≡ part ++ rest) (long :
       (λ h. none_left rest (omega (arith, ap length whole, length-append part rest))
       ∙ sym (drop_of_length-le s {i = suc (line_length s)} (omega (arith, line_is))))
 
-  -- what is left of the part without the newline that it may end with
-  pub first_line : 0 < length s → (line : List ℕ)
-      → ((get_or part (length part - 1) 0 ≡ 10) × (line ≡ take (length part - 1) part)) ⊎ ((get_or part (length part - 1) 0 ≡ 10 → ⊥) × (line ≡ part))
-      → line ≡ take (line_length s) s
+  pub first_line : 0 < length s → (line : List ℕ) → Stripped part line → line ≡ take (line_length s) s
   first_line p line (inl a) =
       split (suc k) (length s)
       (λ h. let n : length part - 1 ≡ line_length s = omega (arith, line_is) in
@@ -76,33 +82,28 @@ module _ (s part rest : List ℕ) (k : ℕ) (whole : s ≡ part ++ rest) (long :
       let z : ⊥ = a.0 (sym (read (length part - 1) (omega arith)) ∙ ap (λ (j : ℕ). get_or s j 0) n ∙ newline h) in absurd z)
       (λ h. a.1 ∙ sym (front (line_length s) (omega (arith, line_is)) ∙ take_all (line_length s) part (omega (arith, line_is))))
 
--- what the kit's `strip_suffix` leaves of a part: without its last byte if that is a newline, else all of it
-pub stripped : (o : Option (Bor (List ℕ))) (part : Bor (List ℕ)) → 0 < length part.now
-    → MatchOption o (pointwise nat_eq (drop (length part.now - 1) part.now) (10 ∷ []) ≡ false)
-    (λ x. (pointwise nat_eq (drop (length part.now - 1) part.now) (10 ∷ []) ≡ true) × (x.now ≡ take (length part.now - 1) part.now) × (length x.now + 1 ≡ length part.now))
-    → ((get_or part.now (length part.now - 1) 0 ≡ 10) × ((unwrap_or o part).now ≡ take (length part.now - 1) part.now))
-    ⊎ ((get_or part.now (length part.now - 1) 0 ≡ 10 → ⊥) × ((unwrap_or o part).now ≡ part.now))
-stripped o part h m = by o m where
-  last : drop (length part.now - 1) part.now ≡ get_or part.now (length part.now - 1) 0 ∷ []
-  last =
-      drop-cons part.now (length part.now - 1) 0 (omega arith)
-      ∙ ap (λ (t : List ℕ). get_or part.now (length part.now - 1) 0 ∷ t) (drop_of_length-le part.now {i = suc (length part.now - 1)} (omega arith))
+-- the kit's `strip_suffix` strips so
+last : (part : List ℕ) → 0 < length part → drop (length part - 1) part ≡ get_or part (length part - 1) 0 ∷ []
+last part h =
+    drop-cons part (length part - 1) 0 (omega arith)
+    ∙ ap (λ (t : List ℕ). get_or part (length part - 1) 0 ∷ t) (drop_of_length-le part {i = suc (length part - 1)} (omega arith))
 
-  by : (o : Option (Bor (List ℕ))) → MatchOption o (pointwise nat_eq (drop (length part.now - 1) part.now) (10 ∷ []) ≡ false)
-      (λ x. (pointwise nat_eq (drop (length part.now - 1) part.now) (10 ∷ []) ≡ true) × (x.now ≡ take (length part.now - 1) part.now) × (length x.now + 1 ≡ length part.now))
-      → ((get_or part.now (length part.now - 1) 0 ≡ 10) × ((unwrap_or o part).now ≡ take (length part.now - 1) part.now))
-      ⊎ ((get_or part.now (length part.now - 1) 0 ≡ 10 → ⊥) × ((unwrap_or o part).now ≡ part.now))
-  by (Some x) m =
-      let e : drop (length part.now - 1) part.now ≡ 10 ∷ [] = (bytes_decides (drop (length part.now - 1) part.now) (10 ∷ [])).0 m.0 in
-      let n : get_or part.now (length part.now - 1) 0 ≡ 10 = cc last in
-      inl (n, m.1)
-  by None m =
-      inr (
-        (λ e. let t : pointwise nat_eq (drop (length part.now - 1) part.now) (10 ∷ []) ≡ true =
-            (bytes_decides (drop (length part.now - 1) part.now) (10 ∷ [])).1 (last ∙ ap (λ (x : ℕ). x ∷ []) e) in
-            cc),
-        refl,
-      )
+abbrev ends : List ℕ → Bool
+ends part = pointwise nat_eq (drop (length part - 1) part) (10 ∷ [])
+
+pub stripped : (o : Option (Bor (List ℕ))) (part : Bor (List ℕ)) → 0 < length part.now
+    → MatchOption o (ends part.now ≡ false) (λ x. (ends part.now ≡ true) × (x.now ≡ take (length part.now - 1) part.now) × (length x.now + 1 ≡ length part.now))
+    → Stripped part.now (unwrap_or o part).now
+stripped (Some x) part h m =
+    let e : drop (length part.now - 1) part.now ≡ 10 ∷ [] = (bytes_decides (drop (length part.now - 1) part.now) (10 ∷ [])).0 m.0 in
+    let n : get_or part.now (length part.now - 1) 0 ≡ 10 = cc (last part.now h) in
+    inl (n, m.1)
+stripped None part h m =
+    inr (
+      (λ e. let t : ends part.now ≡ true = (bytes_decides (drop (length part.now - 1) part.now) (10 ∷ [])).1 (last part.now h ∙ ap (λ (x : ℕ). x ∷ []) e) in
+          cc),
+      refl,
+    )
 
 pub line_in : (s : List ℕ) → line_length s ≤ length s
 unfolding line_length

@@ -1,6 +1,6 @@
 -- What a line means: the code's two tests of its opening, and document 01's sentence, both ways.
 -- Assumes nothing.
-use Prim.Native.Nat.{ℕ, ◌<◌, ◌≤◌}
+use Prim.Native.Nat.{ℕ, ◌<◌}
 use mathlib.Core.Path.{◌≡◌, refl, ap, sym, ◌∙◌}
 use mathlib.Core.Bool.{Bool, true, false, cond, ◌&&◌}
 use mathlib.Core.List.{List, [], ◌∷◌, ◌++◌}
@@ -24,13 +24,7 @@ use Rattle.beam.proofs.Reading.{in_frame_lem}
 false_true : false ≡ true → ⊥
 false_true e = let z : ◌≡◌ {A = ℕ} 0 1 = ap (λ (b : Bool). cond b 1 0) e in omega arith
 
--- a text that starts so is at least as long, and is that opening and the rest
-pub opening_fits : (p text : List ℕ) → starts_with p text ≡ true → length p ≤ length text
-unfolding starts_with
-opening_fits [] text e = omega arith
-opening_fits (p ∷ ps) [] e = let z : ⊥ = false_true e in absurd z
-opening_fits (p ∷ ps) (x ∷ xs) e = omega (arith, opening_fits ps xs (and_right (eqb x p) (starts_with ps xs) e))
-
+-- a text that starts so is that opening and the rest
 pub opened : (p text : List ℕ) → starts_with p text ≡ true → text ≡ p ++ drop (length p) text
 unfolding starts_with
 opened [] text e = refl

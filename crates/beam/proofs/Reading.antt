@@ -1,11 +1,10 @@
 -- How a clock is read, one byte after the other: what the loop of `clock_meaning` keeps, and each of its ways out.
 -- Assumes nothing.
-use Prim.Native.Nat.{ℕ, ◌+◌, ◌-◌, ◌*◌, ◌/◌, ◌%◌, ◌^◌, ◌<◌, ◌≤◌}
+use Prim.Native.Nat.{ℕ, ◌+◌, ◌-◌, ◌*◌, ◌/◌, ◌%◌, ◌<◌, ◌≤◌}
 use mathlib.Core.Path.{◌≡◌, refl, ap, ap₂, sym, ◌∙◌}
 use mathlib.Core.Bool.{true, ◌&&◌}
 use mathlib.Core.List.{List, [], ◌∷◌, ◌++◌}
 use native.Mathlib.Numerals.{add-one}
-use native.Mathlib.Nat.{not-suc-le-zero}
 use native.Mathlib.Omega.{arith}
 use borrow.Author.Tests.{lt-ltb, ltb-true}
 use lib.Dec.{ltb}
@@ -13,9 +12,7 @@ use lib.ListN.{length, get_or, take, drop}
 use lib.Seq.{drop-cons, take-suc, take_all, get_or-take, length-take-le}
 use Rattle.laws.proofs.Cases.{split, by_bool, and_left, and_right, and_both}
 use Rattle.machine.specs.declared.ZXMachine.{ZXMachine}
-use Rattle.machine.specs.declared.ZXSpecs.{ZXSpecs}
 use Rattle.machine.specs.Numbers.{specs_of}
-use Rattle.machine.proofs.Numbered.{regular}
 use Rattle.std.specs.Prelude.{Option, Some, None}
 use Rattle.beam.specs.declared.Asked.{Asked}
 use Rattle.beam.specs.Decimal.{decimal, value_from, value, same_text}
@@ -48,19 +45,12 @@ in_frame_lem m text v e h =
     let t : (same_text text (decimal (value text)) && ltb (value text) (specs_of m).frame) ≡ true = and_both _ _ s l in
     rw t (ap (λ (x : ℕ). Some (asked m x)) (sym w))
 
--- every frame is short enough that no sum of the loop can wrap
-pub frame_short : (m : ZXMachine) (s : ZXSpecs) → s ≡ specs_of m → s.frame < 2 ^ 17
-frame_short m s e = rw e (regular m).short
-
 -- the first i bytes of a text have been read, and came to v
 pub record Read (text : List ℕ) (v i : ℕ) : Type 0 where
   pub within : i ≤ length text
   pub to_come : value_from v (drop i text) ≡ value text
   pub start : i ≡ 0 → v ≡ 0
   pub spelt : 0 < i → decimal v ≡ take i text
-
-pub read_none : (text : List ℕ) → Read text 0 0
-read_none text = record { within = omega arith; to_come = refl; start = λ e. refl; spelt = λ h. absurd (not-suc-le-zero h) }
 
 pub empty : (m : ZXMachine) (text : List ℕ) → length text ≡ 0 → None ≡ clock_meaning m text
 empty m text h = no_number m text (λ e. let z : ⊥ = omega (arith, ap length e, length_some (value text)) in absurd z)

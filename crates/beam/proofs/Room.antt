@@ -13,8 +13,8 @@ use Rattle.laws.proofs.Cases.{split, by_lt}
 use Rattle.machine.specs.declared.ZXMachine.{ZXMachine}
 use Rattle.machine.specs.declared.ZXMachine.TheVariants.{Sinclair48K, Sinclair128K}
 use Rattle.machine.specs.declared.Delay.{Delay}
-use Rattle.machine.specs.declared.BorderPlace.{BorderPlace}
-use Rattle.machine.specs.declared.BorderPlace.TheVariants.{At, FrameEnd}
+use Rattle.machine.specs.declared.BorderPixel.{BorderPixel}
+use Rattle.std.specs.Prelude.{Option, Some, None}
 use Rattle.machine.specs.Numbers.{specs_of}
 use Rattle.machine.specs.Timing.{delay_at, first_column, border_at, frame_end, interrupt}
 use Rattle.machine.proofs.Numbered.{regular}
@@ -28,10 +28,9 @@ use Rattle.beam.specs.Decimal.{decimal}
 use Rattle.beam.specs.Meaning.{asked, model, line_text, line_meaning, lines_of}
 use Rattle.beam.specs.Printed.{border_line, border_pixel, flag, fields, spaced, outside, held_line, answer_to, line_report}
 use Rattle.beam.specs.Whole.{title, lines_report, report_of, room}
-use Rattle.beam.specs.Inner.{line_length}
 use Rattle.beam.proofs.Spelling.{length_below, length_from, length_some}
 use Rattle.beam.proofs.Means.{means_in}
-use Rattle.beam.proofs.Cutting.{line_in, lines_first}
+use Rattle.beam.proofs.Cutting.{line_length, line_in, lines_first}
 
 -- a clock has at most five digits, a machine two or three
 frame_digits : (m : ZXMachine) → (specs_of m).frame ≤ 10 ^ 5
@@ -42,9 +41,9 @@ model_digits : (m : ZXMachine) → (10 ^ 1 ≤ model m) × (model m < 10 ^ 3)
 model_digits Sinclair48K = (lit≤ tt, lit≤ tt)
 model_digits Sinclair128K = (lit≤ tt, lit≤ tt)
 
-place_digits : (p : BorderPlace) → Within p → (border_line p < 10 ^ 3) × (border_pixel p < 10 ^ 3)
-place_digits (At line pixel) w = (omega (arith, w.0), omega (arith, w.1))
-place_digits FrameEnd w = (omega arith, omega arith)
+place_digits : (p : Option BorderPixel) → Within p → (border_line p < 10 ^ 3) × (border_pixel p < 10 ^ 3)
+place_digits (Some q) w = (omega (arith, w.0), omega (arith, w.1))
+place_digits None w = (omega arith, omega arith)
 
 flag_digit : (on : Bool) → flag on < 10 ^ 1
 flag_digit true = lit≤ tt

@@ -9,9 +9,9 @@ use Rattle.beam.specs.declared.Question.{Question}
 use Rattle.beam.specs.Meaning.{line_meaning, lines_of}
 use Rattle.beam.specs.Printed.{line_report}
 use Rattle.beam.specs.Whole.{lines_report}
-use Rattle.beam.specs.Inner.{line_length, Put}
+use Rattle.beam.specs.Inner.{Put}
 use Rattle.beam.proofs.Runs.{Left, left_start, left_step, left_end, put_long}
-use Rattle.beam.proofs.Cutting.{line_in, lines_first}
+use Rattle.beam.proofs.Cutting.{line_length, line_in, lines_first}
 use Rattle.beam.proofs.Room.{line_room}
 
 -- of the input `rest` is left, whose lines are still to be printed; the first of them has the given number

@@ -1,12 +1,7 @@
 -- What the contracts of inner functions cite besides document 01's definitions. No public contract needs these.
 -- Assumes nothing.
-use Rattle.std.specs.Prelude.{ℕ, suc, ◌+◌, ◌≡◌, cond, List, [], ◌∷◌, eqb, length}
+use Rattle.std.specs.Prelude.{ℕ, ◌+◌, ◌≡◌, List, length}
 use Rattle.std.proofs.lemmas.List.Edits.{sets}
-
--- how many bytes stand before a text's first newline
-unfoldable pub line_length : List ℕ → ℕ
-line_length [] = 0
-line_length (b ∷ bs) = cond (eqb b 10) 0 (suc (line_length bs))
 
 -- what a function that puts bytes into a list at a place does: it leaves them there and nothing else changed, and answers the place behind them
 pub record Put (before : List ℕ) (at : ℕ) (bytes : List ℕ) (next : ℕ) (after : List ℕ) : Type 0 where

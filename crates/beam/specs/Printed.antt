@@ -4,8 +4,7 @@ use Rattle.std.specs.Prelude.{ℕ, Bool, cond, List, [], ◌∷◌, ◌++◌, Op
 use Rattle.machine.specs.declared.ZXMachine.{ZXMachine}
 use Rattle.machine.specs.declared.Delay.{Delay}
 use Rattle.machine.specs.declared.Delay.TheVariants.{Held, Outside}
-use Rattle.machine.specs.declared.BorderPlace.{BorderPlace}
-use Rattle.machine.specs.declared.BorderPlace.TheVariants.{At, FrameEnd}
+use Rattle.machine.specs.declared.BorderPixel.{BorderPixel}
 use Rattle.machine.specs.Numbers.{specs_of}
 use Rattle.machine.specs.Timing.{delay_at, delay, first_column, blocks_at, border_at, frame_end, interrupt}
 use Rattle.beam.specs.declared.Question.{Question}
@@ -15,13 +14,13 @@ use Rattle.beam.specs.Decimal.{decimal}
 use Rattle.beam.specs.Meaning.{model}
 
 -- "border line and pixel (0 0 at frame end)"
-abbrev pub border_line : BorderPlace → ℕ
-border_line (At line pixel) = line
-border_line FrameEnd = 0
+abbrev pub border_line : Option BorderPixel → ℕ
+border_line (Some p) = p.line
+border_line None = 0
 
-abbrev pub border_pixel : BorderPlace → ℕ
-border_pixel (At line pixel) = pixel
-border_pixel FrameEnd = 0
+abbrev pub border_pixel : Option BorderPixel → ℕ
+border_pixel (Some p) = p.pixel
+border_pixel None = 0
 
 abbrev pub flag : Bool → ℕ
 flag on = cond on 1 0

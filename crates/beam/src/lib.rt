@@ -13,9 +13,10 @@ ghost use Rattle.beam.specs.Whole.{lines_report, reported, reported_into};
 ghost use Rattle.beam.specs.Inner.{Put};
 
 use itoa::Buffer;
-use machine::{BorderPlace, Delay, ZXMachine};
+use machine::{BorderPixel, Delay, ZXMachine};
 
 // What is asked of each clock: where the beam is (program `beamat`), or whether the Z80 is held there and why (program `heldat`).
+// Kept: no trait, with a type for each program: its laws would only say `title` and `answer_to` again, which have a line for each.
 #[derive(Clone, Copy)]
 pub enum Question {
     Beam,
@@ -64,7 +65,7 @@ impl Asked {
         let blocks = machine.blocks_count(clock);
         let on = u32::from(machine::int_active(clock));
         match machine.next_border_pixel(clock) {
-            BorderPlace::At { line, pixel } => [
+            Some(BorderPixel { line, pixel }) => [
                 clock,
                 held,
                 blocks.lines,
@@ -74,7 +75,7 @@ impl Asked {
                 0,
                 on,
             ],
-            BorderPlace::FrameEnd => [clock, held, blocks.lines, blocks.columns, 0, 0, 1, on],
+            None => [clock, held, blocks.lines, blocks.columns, 0, 0, 1, on],
         }
     }
 }
@@ -148,12 +149,10 @@ fn put_lines(question: Question, input: &[u8], out: &mut [u8], at: usize) -> usi
     requires input_in_bounds { at + 8 * length input.now ≤ length out.old }
     ensures { Put out.old at (lines_report question 1 (lines_of input.now)) result out.new }
 {
-    let mut number: u32 = 1;
     let mut next = at;
-    for ended in input.split_inclusive(|&byte| byte == b'\n') {
+    for (number, ended) in (1..).zip(input.split_inclusive(|&byte| byte == b'\n')) {
         let line = ended.strip_suffix(b"\n").unwrap_or(ended);
         next = put_line(question, line, number, out, next);
-        number += 1;
     }
     next
 }
@@ -244,6 +243,8 @@ fn put_decimal(n: u32, out: &mut [u8], at: usize) -> usize
 }
 
 // A text as it stands.
+// Kept: a struct of the slice and the place in it, with these writers as methods, was tried and gets no proof: behind `&mut self` a
+// callee may put another slice in its place, so that no caller can say what its own holds; and by value an `ensures` names no field.
 fn put(text: &[u8], out: &mut [u8], at: usize) -> usize
     requires { at + length text.now ≤ length out.old }
     ensures { Put out.old at text.now result out.new }

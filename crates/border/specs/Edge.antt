@@ -1,9 +1,8 @@
 -- Document 01, "Start, time and paint": the border.
 -- Assumes nothing.
-use Rattle.std.specs.Prelude.{ℕ, ◌-◌, ◌*◌, ◌/◌, Bool, true, false, cond, List, replicate}
+use Rattle.std.specs.Prelude.{ℕ, ◌-◌, ◌*◌, ◌/◌, Bool, true, false, cond, List, replicate, Option, Some, None}
 use Rattle.std.proofs.lemmas.List.Edits.{sets}
-use Rattle.machine.specs.declared.BorderPlace.{BorderPlace}
-use Rattle.machine.specs.declared.BorderPlace.TheVariants.{At, FrameEnd}
+use Rattle.machine.specs.declared.BorderPixel.{BorderPixel}
 use Rattle.machine.specs.Timing.{place_position}
 use Rattle.machine.specs.Limits.{border_length}
 use Rattle.border.specs.declared.Beam.{Beam}
@@ -28,13 +27,13 @@ filled_to to e = filled (2 * e.pairs) to e.colour e.pixels
 
 -- "A border write fills from the beam position to the write's position in the old beam colour, then moves there with the new colour.
 -- At frame end it fills to 76,800, sets blocked and beam 0"
-unfoldable pub inked_at : BorderPlace → ℕ → Edge → Edge
-inked_at (At line pixel) colour e =
-    record { colour = colour; blocked = false; pairs = place_position (At line pixel) / 2; pixels = filled_to (place_position (At line pixel)) e }
-inked_at FrameEnd colour e = record { colour = colour; blocked = true; pairs = 0; pixels = filled_to border_length e }
+unfoldable pub inked_at : Option BorderPixel → ℕ → Edge → Edge
+inked_at (Some p) colour e =
+    record { colour = colour; blocked = false; pairs = place_position (Some p) / 2; pixels = filled_to (place_position (Some p)) e }
+inked_at None colour e = record { colour = colour; blocked = true; pairs = 0; pixels = filled_to border_length e }
 
 -- "later writes in that frame only change the colour"
-unfoldable pub inked : BorderPlace → ℕ → Edge → Edge
+unfoldable pub inked : Option BorderPixel → ℕ → Edge → Edge
 inked place colour e =
     cond e.blocked
     (record { colour = colour; blocked = e.blocked; pairs = e.pairs; pixels = e.pixels })

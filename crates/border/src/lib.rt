@@ -9,7 +9,7 @@ ghost use Rattle.machine.specs.Timing.{border_at};
 ghost use Rattle.machine.specs.Limits.{border_length};
 ghost use Rattle.border.specs.Edge.{filled, edge_of, inked, finished};
 
-use machine::{BorderPlace, ZXMachine};
+use machine::ZXMachine;
 
 // The border's beam: the colour that it paints in, whether this frame is painted to its end, and its position in pixel pairs.
 #[derive(Clone, Copy)]
@@ -40,7 +40,7 @@ fn fill(border: &mut [u8], from: usize, to: usize, colour: u8)
 }
 
 // A border write at a clock: what the beam has passed is painted in the old colour, and it goes on in the new one.
-#[tactic(auto, using(machine::proofs::Bounds::at_within), unfolding(crate::specs::Edge::inked, crate::specs::Edge::inked_at))]
+#[tactic(auto, unfolding(crate::specs::Edge::inked, crate::specs::Edge::inked_at))]
 pub fn set_border(
     beam: Beam,
     machine: ZXMachine,
@@ -56,8 +56,8 @@ pub fn set_border(
     }
     let from = beam.pixel();
     match machine.next_border_pixel(clocks) {
-        BorderPlace::At { line, pixel } => {
-            let to = 320 * line + pixel;
+        Some(place) => {
+            let to = 320 * place.line + place.pixel;
             fill(border, from, to as usize, beam.colour);
             Beam {
                 colour,
@@ -65,7 +65,7 @@ pub fn set_border(
                 pairs: (to / 2) as u16,
             }
         }
-        BorderPlace::FrameEnd => {
+        None => {
             fill(border, from, machine::BORDER_LENGTH, beam.colour);
             Beam {
                 colour,

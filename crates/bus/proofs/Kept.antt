@@ -10,8 +10,8 @@ use borrow.Author.Tests.{leb-true, le-leb}
 use Rattle.laws.proofs.Cases.{by_bool}
 use Rattle.machine.specs.declared.ZXMachine.{ZXMachine}
 use Rattle.machine.specs.declared.ZXMachine.TheVariants.{Sinclair48K, Sinclair128K}
-use Rattle.machine.specs.declared.BorderPlace.{BorderPlace}
-use Rattle.machine.specs.declared.BorderPlace.TheVariants.{At, FrameEnd}
+use Rattle.machine.specs.declared.BorderPixel.{BorderPixel}
+use Rattle.std.specs.Prelude.{Option, Some, None}
 use Rattle.machine.specs.Numbers.{specs_of}
 use Rattle.machine.specs.Timing.{border_at, place_position, is_frame_end, frame_end}
 use Rattle.machine.proofs.Numbered.{regular}
@@ -92,17 +92,17 @@ module _ (m : ZXMachine) where
       })
 
   -- the beam after a border write at a place: in the new colour, at or before that place, and blocked only at frame end, with pairs 0
-  record InPlace (place : BorderPlace) (k : ℕ) (e : Edge) : Type 0 where
+  record InPlace (place : Option BorderPixel) (k : ℕ) (e : Edge) : Type 0 where
     colour : e.colour ≡ k
     pairs : 2 * e.pairs ≤ place_position place
     at_end : e.blocked ≡ true → is_frame_end place ≡ true
     no_pairs : e.blocked ≡ true → e.pairs ≡ 0
 
-  open_kept : (place : BorderPlace) (k : ℕ) (e : Edge) → InPlace place k (inked_at place k e)
+  open_kept : (place : Option BorderPixel) (k : ℕ) (e : Edge) → InPlace place k (inked_at place k e)
   unfolding inked_at
-  open_kept (At line pixel) k e =
+  open_kept (Some p) k e =
       record { colour = refl; pairs = omega arith; at_end = λ f. absurd (false≢true f); no_pairs = λ f. absurd (false≢true f) }
-  open_kept FrameEnd k e = record { colour = refl; pairs = omega arith; at_end = λ f. refl; no_pairs = λ f. refl }
+  open_kept None k e = record { colour = refl; pairs = omega arith; at_end = λ f. refl; no_pairs = λ f. refl }
 
   ink_kept : (k : ℕ) (w : World) → SoundWorld m w → InPlace (border_at (specs_of m) w.core.clock) k (in_edge m (colour k) w.core w.edge)
   unfolding in_edge inked

@@ -8,8 +8,8 @@ use lib.ListN.{length, length-replicate}
 use lib.Seq.{length-sets}
 use Rattle.laws.proofs.Cases.{by_bool}
 use Rattle.machine.specs.declared.ZXMachine.{ZXMachine}
-use Rattle.machine.specs.declared.BorderPlace.{BorderPlace}
-use Rattle.machine.specs.declared.BorderPlace.TheVariants.{At, FrameEnd}
+use Rattle.machine.specs.declared.BorderPixel.{BorderPixel}
+use Rattle.std.specs.Prelude.{Option, Some, None}
 use Rattle.machine.specs.Numbers.{specs_of}
 use Rattle.machine.specs.Limits.{picture_length, border_length}
 use Rattle.machine.specs.Timing.{border_at}
@@ -51,12 +51,12 @@ unfolding finished
 finished_length e =
     by_bool (λ (l : List ℕ). length l ≡ length e.pixels) e.blocked (λ f. refl) (λ f. length_filled (2 * e.pairs) 76800 e.colour e.pixels)
 
-written_length : (place : BorderPlace) (k : ℕ) (e : Edge) → length (inked_at place k e).pixels ≡ length e.pixels
+written_length : (place : Option BorderPixel) (k : ℕ) (e : Edge) → length (inked_at place k e).pixels ≡ length e.pixels
 unfolding inked_at
-written_length (At line pixel) k e = length_filled (2 * e.pairs) (320 * line + pixel) e.colour e.pixels
-written_length FrameEnd k e = length_filled (2 * e.pairs) 76800 e.colour e.pixels
+written_length (Some p) k e = length_filled (2 * e.pairs) (320 * p.line + p.pixel) e.colour e.pixels
+written_length None k e = length_filled (2 * e.pairs) 76800 e.colour e.pixels
 
-inked_length : (place : BorderPlace) (k : ℕ) (e : Edge) → length (inked place k e).pixels ≡ length e.pixels
+inked_length : (place : Option BorderPixel) (k : ℕ) (e : Edge) → length (inked place k e).pixels ≡ length e.pixels
 unfolding inked
 inked_length place k e =
     by_bool (λ (x : Edge). length x.pixels ≡ length e.pixels) e.blocked (λ f. refl) (λ f. written_length place k e)

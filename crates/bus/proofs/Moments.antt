@@ -6,9 +6,9 @@ use mathlib.Core.List.{List, [], ◌∷◌, ◌++◌}
 use mathlib.Core.Logic.{⊎_elim}
 use Prim.Native.Nat.{ℕ, ◌+◌, ◌-◌, ◌<◌, ◌≤◌}
 use native.Mathlib.Omega.{arith}
+use Rattle.std.specs.Prelude.{None}
 use Rattle.machine.specs.declared.ZXMachine.{ZXMachine}
 use Rattle.machine.specs.Numbers.{specs_of}
-use Rattle.ports.specs.declared.Answer.TheVariants as answer
 use Rattle.ports.specs.declared.Devices.{Devices}
 use Rattle.ports.specs.Order.{read_order}
 use Rattle.ports.specs.Hearers.{hearers}
@@ -40,7 +40,7 @@ module _ (m : ZXMachine) where
 
     -- THE VALUE'S MOMENT: what the floating bus gives a read is the byte of the place at the clock of the call's start + its clocks - 1,
     -- with the memory and the paging of that moment.
-    pub read_moment : (d : Devices) → read_order d port ≡ answer.Floating → c.clock + clocks_in (port_read m port c) ≤ (specs_of m).frame
+    pub read_moment : (d : Devices) → read_order d port ≡ None → c.clock + clocks_in (port_read m port c) ≤ (specs_of m).frame
         → read_value m d port c
         ≡ floating_byte m (floating_address (floating_place (specs_of m) (c.clock + clocks_in (port_read m port c) - 1))) (core_after m (read_before m port c) c)
     unfolding read_value floating_bus

@@ -9,11 +9,13 @@ use native.Mathlib.Nat.{add_assoc, add-zero, div-add-mod, mod-lt, mul-le-mul_lef
 use native.Mathlib.Omega.{arith}
 use lib.Dec.{lit≤}
 use borrow.Author.Tests.{lt-ltb, le-ltb, le-leb, lt-leb}
+use Rattle.std.specs.Prelude.{Option, Some, None}
 use Rattle.laws.proofs.Cases.{by_bool, split}
 use Rattle.machine.specs.declared.ZXMachine.{ZXMachine}
 use Rattle.machine.specs.declared.ZXMachine.TheVariants.{Sinclair48K, Sinclair128K}
 use Rattle.machine.specs.declared.ZXSpecs.{ZXSpecs}
-use Rattle.machine.specs.declared.BorderPlace.TheVariants.{At, FrameEnd}
+use Rattle.std.specs.Prelude.{None}
+use Rattle.machine.specs.Timing.{pixel_at}
 use Rattle.machine.specs.Numbers.{specs_of, Regular}
 use Rattle.machine.specs.Timing.{delay_at, delay, block_position}
 use Rattle.machine.specs.Contended.{port_contended}
@@ -23,11 +25,6 @@ use Rattle.machine.proofs.Delays.{delay_before, delay_over, delay_left_over}
 use Rattle.machine.proofs.Rising.{border_end, border_before}
 use Rattle.memory.specs.Paging.{addr_contended}
 use Rattle.ports.specs.declared.Devices.{Devices}
-use Rattle.ports.specs.declared.Answer.{Answer}
-use Rattle.ports.specs.declared.Answer.TheVariants as answer
-use Rattle.ports.specs.declared.FloatingPlace.TheVariants as place
-use Rattle.ports.specs.declared.FloatingAddress.{FloatingAddress}
-use Rattle.ports.specs.declared.FloatingAddress.TheVariants as floating
 use Rattle.ports.specs.Order.{read_order}
 use Rattle.ports.specs.Floating.{floating_in, floating_place}
 use Rattle.border.specs.Edge.{Edge, filled, inked, inked_at, finished}
@@ -276,7 +273,7 @@ module _ (t : Turn) (inside : t.world.core.clock < (specs_of t.machine).frame)
 
 -- The tail of a frame and the head of the next are alike to a border write: closing the border and then writing before its first pixel
 -- leaves what writing at frame end and then closing leaves.
-ink_over : (k : ℕ) (e : Edge) (b : Bool) → e.blocked ≡ b → inked (At 0 0) k (finished e) ≡ finished (inked FrameEnd k e)
+ink_over : (k : ℕ) (e : Edge) (b : Bool) → e.blocked ≡ b → inked (pixel_at 0 0) k (finished e) ≡ finished (inked None k e)
 unfolding inked inked_at finished filled
 ink_over k e true h = rw h
 ink_over k e false h = rw h
@@ -335,7 +332,7 @@ module _ (t : Turn) (inside : t.world.core.clock < (specs_of t.machine).frame)
 -- ---- what a read finds on the floating bus
 
 -- nothing is fetched past a frame's end, counted on
-floating_past : (s : ZXSpecs) → Regular s → (t : ℕ) → s.frame ≤ t → floating_place s t ≡ place.Idle
+floating_past : (s : ZXSpecs) → Regular s → (t : ℕ) → s.frame ≤ t → floating_place s t ≡ None
 unfolding floating_place floating_in
 floating_past s g t h =
     let l = s.line in
@@ -353,13 +350,13 @@ floating_past s g t h =
     let n : l * 191 + r ≡ c = ap (λ (y : ℕ). l * y + r) (sym e) ∙ d in
     simp (le-ltb t s.block b, lt-leb 192 q i, le-leb 124 r (omega (arith, g.blocks_in_frame))))
 
-floating_before : (s : ZXSpecs) (t : ℕ) → t < s.block → floating_place s t ≡ place.Idle
+floating_before : (s : ZXSpecs) (t : ℕ) → t < s.block → floating_place s t ≡ None
 unfolding floating_place
 floating_before s t h = rw (lt-ltb t s.block h)
 
-byte_same : (m : ZXMachine) (a : FloatingAddress) (c d : Core) → c.paging ≡ d.paging → c.ram ≡ d.ram → floating_byte m a c ≡ floating_byte m a d
-byte_same m floating.Idle c d p r = refl
-byte_same m (floating.At addr) c d p r = rw (p, r)
+byte_same : (m : ZXMachine) (a : Option ℕ) (c d : Core) → c.paging ≡ d.paging → c.ram ≡ d.ram → floating_byte m a c ≡ floating_byte m a d
+byte_same m None c d p r = refl
+byte_same m (Some addr) c d p r = rw (p, r)
 
 module _ (m : ZXMachine) (n : ℕ) (c : Core) (few : n ≤ 32) (inside : c.clock < (specs_of m).frame) where
   floating_by : (b : Bool) → closes m n c ≡ b → floating_bus m (in_core m (tick n) c) ≡ floating_bus m (at_clock (c.clock + n) c)
@@ -378,9 +375,9 @@ module _ (m : ZXMachine) (n : ℕ) (c : Core) (few : n ≤ 32) (inside : c.clock
   floating_after : floating_bus m (in_core m (tick n) c) ≡ floating_bus m (at_clock (c.clock + n) c)
   floating_after = floating_by (closes m n c) refl
 
-answered_same : (m : ZXMachine) (a : Answer) (c d : Core) → floating_bus m c ≡ floating_bus m d → answered m a c ≡ answered m a d
-answered_same m (answer.Value v) c d e = refl
-answered_same m answer.Floating c d e = e
+answered_same : (m : ZXMachine) (a : Option ℕ) (c d : Core) → floating_bus m c ≡ floating_bus m d → answered m a c ≡ answered m a d
+answered_same m (Some v) c d e = refl
+answered_same m None c d e = e
 
 -- THE VALUE OF A READ, by the core at the clock that its two parts end at.
 pub read_value_lem : (t : Turn) → t.world.core.clock < (specs_of t.machine).frame

@@ -1,6 +1,6 @@
 -- Document 01, "Bus calls": waits, port read and port write, each as the operations that the core decides.
 -- Assumes nothing.
-use Rattle.std.specs.Prelude.{ℕ, ◌%◌, Bool, cond, List, [], ◌∷◌, ◌++◌}
+use Rattle.std.specs.Prelude.{ℕ, ◌%◌, Bool, cond, List, [], ◌∷◌, ◌++◌, Option, Some, None}
 use Rattle.machine.specs.declared.ZXMachine.{ZXMachine}
 use Rattle.machine.specs.Numbers.{specs_of}
 use Rattle.machine.specs.Timing.{delay_at}
@@ -10,10 +10,6 @@ use Rattle.memory.specs.declared.Paged.TheVariants as paging
 use Rattle.memory.specs.Paging.{addr_contended, write7ffd, paged_code}
 use Rattle.memory.specs.Memory.{peeked}
 use Rattle.ports.specs.declared.Devices.{Devices}
-use Rattle.ports.specs.declared.Answer.{Answer}
-use Rattle.ports.specs.declared.Answer.TheVariants as answer
-use Rattle.ports.specs.declared.FloatingAddress.{FloatingAddress}
-use Rattle.ports.specs.declared.FloatingAddress.TheVariants as floating
 use Rattle.ports.specs.Order.{read_order}
 use Rattle.ports.specs.Hearers as hearer
 use Rattle.ports.specs.Hearers.{Hearer, hearers, heard_code}
@@ -66,17 +62,17 @@ abbrev pub port_read : ZXMachine → ℕ → Part
 port_read m port = and_then m (read_before m port) final_step
 
 -- the byte at an address of the floating bus, which is never in ROM, so that none is lent; FFh where nothing is fetched
-abbrev pub floating_byte : ZXMachine → FloatingAddress → Core → ℕ
-floating_byte m floating.Idle c = 0xFF
-floating_byte m (floating.At addr) c = peeked m c.paging [] c.ram addr
+abbrev pub floating_byte : ZXMachine → Option ℕ → Core → ℕ
+floating_byte m None c = 0xFF
+floating_byte m (Some addr) c = peeked m c.paging [] c.ram addr
 
 unfoldable pub floating_bus : ZXMachine → Core → ℕ
 floating_bus m c = floating_byte m (floating_address (floating_place (specs_of m) c.clock)) c
 
 -- the value of a read, by the core when it is taken
-abbrev pub answered : ZXMachine → Answer → Core → ℕ
-answered m (answer.Value v) c = v
-answered m answer.Floating c = floating_bus m c
+abbrev pub answered : ZXMachine → Option ℕ → Core → ℕ
+answered m (Some v) c = v
+answered m None c = floating_bus m c
 
 unfoldable pub read_value : ZXMachine → Devices → ℕ → Core → ℕ
 read_value m d port c = answered m (read_order d port) (core_after m (read_before m port c) c)

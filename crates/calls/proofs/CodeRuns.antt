@@ -14,9 +14,6 @@ follows f g t u v p q =
     ∙ ap (λ (m : ZXMachine). ran_by (g m) (ran_by f t)) (ran_machine (f t.world.core) t)
     ∙ sym (ran_then t.machine f (g t.machine) t refl)
 
--- the machine and the core that a part leaves
-pub left_machine : (f : Part) (t u : Turn) → u ≡ ran_by f t → u.machine ≡ t.machine
-left_machine f t u p = ap (λ (w : Turn). w.machine) p ∙ ran_machine (f t.world.core) t
-
+-- the core that a part leaves
 pub left_core : (f : Part) (t u : Turn) → u ≡ ran_by f t → u.world.core ≡ core_after t.machine (f t.world.core) t.world.core
 left_core f t u p = ap (λ (w : Turn). w.world.core) p ∙ ran_core (f t.world.core) t

@@ -14,9 +14,8 @@ ghost use Rattle.bus.specs.Clocks.{first_clocks, part_clocks, inked_at_clock, at
 ghost use Rattle.steps.specs.Turned.{turn_of, core_of, Ready};
 ghost use Rattle.calls.specs.Paged.{paged_write};
 
-use machine::ZXMachine;
-use memory::Place;
-use ports::{Answer, Devices, FloatingAddress, Written};
+use memory::{Map, Place};
+use ports::{Devices, Written};
 use record::Bus;
 use steps::Turning;
 
@@ -28,40 +27,40 @@ pub struct Answered {
 }
 
 // The byte at an address of the picture, which is never in ROM, so that none is lent.
-fn picture_byte(m: ZXMachine, paging: u8, ram: &[u8], addr: u16) -> u8
-    requires { length ram.now ≡ (specs_of m).ram }
-    ensures { result ≡ peeked m paging [] ram.now addr }
+#[tactic(auto, using(memory::proofs::Places::ram_within))]
+fn picture_byte(map: Map, ram: &[u8], addr: u16) -> u8
+    requires { length ram.now ≡ (specs_of map.machine).ram }
+    ensures { result ≡ peeked map.machine map.paging [] ram.now addr }
 {
-    match memory::place_of(m, paging, addr) {
+    match map.place_of(addr) {
         Place::Rom(_) => 0,
         Place::Ram(at) => ram[at],
     }
 }
 
 // What the floating bus holds at a clock.
+#[tactic(auto, unfolding(bus::specs::Calls::floating_bus))]
 pub fn floating_bus_value(bus: Bus, clock: u32, ram: &[u8]) -> u8
     requires { length ram.now ≡ (specs_of bus.machine).ram }
     ensures { result ≡ floating_bus bus.machine (at_clock clock (core_of bus ram.now)) }
 {
     let place = ports::floating_place(bus.machine, clock);
     match ports::floating_address(place) {
-        FloatingAddress::Idle => 0xFF,
-        FloatingAddress::At(addr) => picture_byte(bus.machine, bus.paging, ram, addr),
+        None => 0xFF,
+        Some(addr) => picture_byte(Map::from(bus), ram, addr),
     }
 }
 
 // The value of a read that is taken at a clock.
-fn read_value(answer: Answer, bus: Bus, clock: u32, ram: &[u8]) -> u8
+fn read_value(answer: Option<u8>, bus: Bus, clock: u32, ram: &[u8]) -> u8
     requires { length ram.now ≡ (specs_of bus.machine).ram }
     ensures { result ≡ answered bus.machine answer (at_clock clock (core_of bus ram.now)) }
 {
-    match answer {
-        Answer::Value(value) => value,
-        Answer::Floating => floating_bus_value(bus, clock, ram),
-    }
+    answer.unwrap_or_else(|| floating_bus_value(bus, clock, ram))
 }
 
 // A port read: its value is taken where both parts end, and all its steps are one.
+#[tactic(auto, using(bus::proofs::PortSteps::first_small, bus::proofs::PortSteps::last_small, contention::proofs::CodeReady::frame_small, contention::proofs::CodeReady::ready_call))]
 pub fn read_io(
     t: Turning,
     devices: Devices,
@@ -103,16 +102,17 @@ pub fn write_7ffd(t: Turning, value: u8) -> Answered
         × (result.value ≡ paged_code (write7ffd t.bus.machine t.bus.paging value)) }
 {
     let bus = t.bus;
-    let taken = memory::write_7ffd(bus.machine, bus.paging, value);
-    let paging = memory::paging_after(taken, bus.paging);
+    let taken = Map::from(bus).write_7ffd(value);
+    let paging = taken.paging_after(bus.paging);
     let bus = Bus { paging, ..bus };
     Answered {
         turn: Turning { bus, ..t },
-        value: memory::paged_code(taken),
+        value: taken.code(),
     }
 }
 
 // A write that does nothing to the bus: all its steps are one.
+#[tactic(auto, using(bus::proofs::PortSteps::first_small, bus::proofs::PortSteps::last_small, contention::proofs::CodeReady::frame_small, contention::proofs::CodeReady::ready_call))]
 fn write_quietly(
     t: Turning,
     port: u16,
@@ -132,6 +132,7 @@ fn write_quietly(
 }
 
 // A border write: it acts at the clock that the first part ends at, and all its steps are one.
+#[tactic(auto, using(bus::proofs::PortSteps::first_small, bus::proofs::PortSteps::last_small, contention::proofs::CodeReady::frame_small, contention::proofs::CodeReady::ready_call))]
 fn write_border(
     t: Turning,
     port: u16,
@@ -156,6 +157,7 @@ fn write_border(
 }
 
 // A paging write: one step before it acts, so that what came before it is painted from the page that was shown, and one after.
+#[tactic(auto, using(bus::proofs::PortSteps::first_small, bus::proofs::PortSteps::last_small, contention::proofs::CodeReady::frame_small, contention::proofs::CodeReady::ready_call))]
 fn write_paging(
     t: Turning,
     port: u16,

@@ -1,7 +1,7 @@
 -- Document 01, "What the table of cases proves": "Proved, in one table, on 48K unless said"; and the delay's answer at the corners of the picture
 -- (02, Q-6).
 -- Assumes nothing.
-use Rattle.std.specs.Prelude.{◌≡◌, Bool, true, false, List, [], ◌∷◌, ℕ}
+use Rattle.std.specs.Prelude.{◌≡◌, Bool, true, false, List, [], ◌∷◌, ℕ, Some}
 use Rattle.machine.specs.declared.ZXMachine.{ZXMachine}
 use Rattle.machine.specs.declared.ZXMachine.TheVariants.{Sinclair48K, Sinclair128K}
 use Rattle.machine.specs.declared.Delay.{Delay}
@@ -9,7 +9,6 @@ use Rattle.machine.specs.declared.Delay.TheVariants.{Held, Outside}
 use Rattle.machine.specs.Numbers.{specs_of}
 use Rattle.machine.specs.Timing as timing
 use Rattle.machine.specs.Timing.{delay, block_position, border_position, frame_end}
-use Rattle.screen.specs.declared.Helped.TheVariants.{Number}
 use Rattle.screen.specs.Address.{line_address}
 use Rattle.memory.specs.Paging.{write7ffd, paging_after, paged_code}
 use Rattle.border.specs.Edge.{Edge}
@@ -81,7 +80,7 @@ abbrev pub right : Row → Type 0
 right (delay_at t d) = delay (specs_of Sinclair48K) t ≡ d
 right (block_at t n) = block_position (specs_of Sinclair48K) t ≡ n
 right (border_at t n end) = (border_position (specs_of Sinclair48K) t ≡ n) × (frame_end (specs_of Sinclair48K) t ≡ end)
-right (line_at line address) = line_address line ≡ Number address
+right (line_at line address) = line_address line ≡ Some address
 right (read_takes port t n) =
     (passed phase paging reported : ℕ) (ram : List ℕ) (screen : Screen) (edge : Edge)
     → (ran_by (port_read Sinclair48K port) (fresh Sinclair48K (at48 t passed phase paging reported ram screen edge))).clocks ≡ n

@@ -1,20 +1,22 @@
 -- What a call asks before its first step is enough for all of them: each step takes its clocks from what is asked.
 -- Assumes nothing.
-use Prim.Native.Nat.{ℕ, ◌+◌, ◌-◌, ◌*◌, ◌<◌, ◌≤◌}
-use mathlib.Core.Path.{◌≡◌, refl, sym, ◌∙◌, subst}
+use Prim.Native.Nat.{ℕ, ◌+◌, ◌-◌, ◌*◌, ◌^◌, ◌<◌, ◌≤◌}
+use mathlib.Core.Path.{◌≡◌, refl, ◌∙◌}
 use mathlib.Core.Bool.{Bool, true, false}
 use mathlib.Core.List.{List}
 use native.Mathlib.Omega.{arith}
+use borrow.Author.Rules.{rules}
 use lib.ListN.{length}
 use Rattle.record.specs.Record.{last_frame}
 use Rattle.laws.proofs.Cases.{split, by_bool}
 use Rattle.machine.specs.declared.ZXMachine.{ZXMachine}
 use Rattle.machine.specs.declared.ZXMachine.TheVariants.{Sinclair48K, Sinclair128K}
-use Rattle.machine.specs.declared.BorderPlace.{BorderPlace}
-use Rattle.machine.specs.declared.BorderPlace.TheVariants.{At, FrameEnd}
+use Rattle.machine.specs.declared.BorderPixel.{BorderPixel}
+use Rattle.std.specs.Prelude.{Option, Some, None}
 use Rattle.machine.specs.Numbers.{specs_of}
 use Rattle.machine.specs.Timing.{border_at}
 use Rattle.machine.proofs.Bounds.{position_small}
+use Rattle.machine.proofs.Numbered.{regular}
 use Rattle.memory.specs.declared.Paged.{Paged}
 use Rattle.memory.specs.declared.Paged.TheVariants as paging
 use Rattle.memory.specs.Memory.{ram_page}
@@ -51,12 +53,12 @@ unfolding finished
 finished_long e =
     by_bool (λ (p : List ℕ). length p ≡ length e.pixels) e.blocked (λ _. refl) (λ _. length_filled (2 * e.pairs) 76800 e.colour e.pixels)
 
-inked_at_long : (place : BorderPlace) (k : ℕ) (e : Edge) → length (inked_at place k e).pixels ≡ length e.pixels
+inked_at_long : (place : Option BorderPixel) (k : ℕ) (e : Edge) → length (inked_at place k e).pixels ≡ length e.pixels
 unfolding inked_at
-inked_at_long (At line pixel) k e = length_filled (2 * e.pairs) (320 * line + pixel) e.colour e.pixels
-inked_at_long FrameEnd k e = length_filled (2 * e.pairs) 76800 e.colour e.pixels
+inked_at_long (Some p) k e = length_filled (2 * e.pairs) (320 * p.line + p.pixel) e.colour e.pixels
+inked_at_long None k e = length_filled (2 * e.pairs) 76800 e.colour e.pixels
 
-inked_long : (place : BorderPlace) (k : ℕ) (e : Edge) → length (inked place k e).pixels ≡ length e.pixels
+inked_long : (place : Option BorderPixel) (k : ℕ) (e : Edge) → length (inked place k e).pixels ≡ length e.pixels
 unfolding inked
 inked_long place k e = by_bool (λ (x : Edge). length x.pixels ≡ length e.pixels) e.blocked (λ _. refl) (λ _. inked_at_long place k e)
 
@@ -108,56 +110,27 @@ module _ (t : Turn) (s c k all n : ℕ) (r : Ready t k all) (one : s + 1 ≤ k) 
       (λ h. rw (tick_over t n h) (ready_over h))
       (λ h. rw (tick_on t n h) (ready_on h))
 
+-- a frame is short
+pub frame_small : (m : ZXMachine) → (specs_of m).frame < 2 ^ 17
+frame_small m = (regular m).short
+
 -- less may be asked
 pub ready_less : (t : Turn) (s c k all : ℕ) → Ready t k all → s ≤ k → c ≤ all → Ready t s c
-ready_less t s c k all r l m =
-    record {
-      ram_fits = r.ram_fits;
-      a_fits = r.a_fits;
-      b_fits = r.b_fits;
-      border_fits = r.border_fits;
-      phase_fits = r.phase_fits;
-      in_frame = r.in_frame;
-      in_place = r.in_place;
-      short = omega (arith, r.short);
-      time = omega (arith, r.time);
-      clocks_fit = omega (arith, r.clocks_fit);
-      blocks_fit = omega (arith, r.blocks_fit);
-    }
+ready_less t s c k all r l m = search rules
+
+-- one step of a port call takes at most what is asked for the whole of it
+pub ready_call : (t : Turn) (n : ℕ) → Ready t 2 28 → n ≤ 28 → Ready t 1 n
+ready_call t n r few = ready_less t 1 n 2 28 r (omega arith) few
 
 -- a border write, at any clock, and a 7FFD write that is taken ask nothing
 pub ready_inked : (t : Turn) (s c clock k : ℕ) → Ready t s c → Ready (inked_at_clock clock k t) s c
 ready_inked t s c clock k r =
-    record {
-      ram_fits = r.ram_fits;
-      a_fits = r.a_fits;
-      b_fits = r.b_fits;
-      border_fits = inked_long (border_at (specs_of t.machine) clock) k t.world.edge ∙ r.border_fits;
-      phase_fits = r.phase_fits;
-      in_frame = r.in_frame;
-      in_place = r.in_place;
-      short = r.short;
-      time = r.time;
-      clocks_fit = r.clocks_fit;
-      blocks_fit = r.blocks_fit;
-    }
+    let border = inked_long (border_at (specs_of t.machine) clock) k t.world.edge in
+    search rules
 
 ready_paged : (t : Turn) (s c v : ℕ) → Ready t s c → Ready (turned (silent (paged v)) t) s c
 unfolding turned in_core in_screen in_edge clocks_of blocks_of
-ready_paged t s c v r =
-    record {
-      ram_fits = r.ram_fits;
-      a_fits = r.a_fits;
-      b_fits = r.b_fits;
-      border_fits = r.border_fits;
-      phase_fits = r.phase_fits;
-      in_frame = r.in_frame;
-      in_place = r.in_place;
-      short = r.short;
-      time = r.time;
-      clocks_fit = omega (arith, r.clocks_fit);
-      blocks_fit = omega (arith, r.blocks_fit);
-    }
+ready_paged t s c v r = search rules
 
 -- a 7FFD write, whatever becomes of it
 repaged_ready : (p : Paged) (t : Turn) (s c : ℕ) → Ready t s c → Ready (ran (paging_ops p) t) s c
@@ -168,9 +141,9 @@ repaged_ready (paging.Taken v) t s c r = ready_paged t s c v r
 
 pub ready_paging : (t u : Turn) (s c v : ℕ) → u ≡ ran_by (paging_write t.machine v) t → Ready t s c → Ready u s c
 ready_paging t u s c v e r =
-    subst (λ (x : Turn). Ready x s c) (sym e) (repaged_ready (write7ffd t.machine t.world.core.paging v) t s c r)
+    rw e (repaged_ready (write7ffd t.machine t.world.core.paging v) t s c r)
 
 -- what a step leaves is ready for the steps that follow
 pub ready_step : (t u : Turn) (s c n : ℕ) → u ≡ turned (tick n) t → Ready t (s + 1) (c + n) → Ready u s c
 ready_step t u s c n e r =
-    subst (λ (x : Turn). Ready x s c) (sym e) (ready_tick t s c (s + 1) (c + n) n r (omega arith) (omega arith))
+    rw e (ready_tick t s c (s + 1) (c + n) n r (omega arith) (omega arith))

@@ -1,2 +1,1 @@
 pub mod CodeReady
-pub mod CodeCalls

@@ -11,6 +11,7 @@ ghost use Rattle.bus.specs.Clocks.{due_at, first_clocks, held_thrice, last_clock
 ghost use Rattle.steps.specs.Turned.{turn_of, Ready};
 
 use machine::ZXMachine;
+use memory::Map;
 use record::Bus;
 use steps::Turning;
 
@@ -18,14 +19,15 @@ use steps::Turning;
 fn delay_at(bus: Bus, addr: u16) -> u32
     ensures { result ≡ due_at bus.machine bus.paging addr bus.clock }
 {
-    let m = bus.machine;
-    if memory::addr_is_contended(m, bus.paging, addr) {
-        return m.contention(bus.clock).clocks();
+    if Map::from(bus).addr_is_contended(addr) {
+        bus.machine.contention(bus.clock).clocks()
+    } else {
+        0
     }
-    0
 }
 
 // A wait at an address, with a memory request or without one: the delay and the n clocks are one step, for the delay closes no frame.
+#[tactic(auto, using(bus::proofs::PortSteps::first_small, crate::proofs::CodeReady::frame_small))]
 pub fn wait_mreq(
     t: Turning,
     addr: u16,
@@ -39,12 +41,12 @@ pub fn wait_mreq(
     ensures { turn_of result ram.now a.new b.new border.new
         ≡ ran_by (address_wait t.bus.machine addr n) (turn_of t ram.now a.old b.old border.old) }
 {
-    let bus = t.bus;
-    let held = delay_at(bus, addr);
+    let held = delay_at(t.bus, addr);
     steps::wait_internal(t, held + n, ram, a, b, border)
 }
 
 // What the first part of a port call takes: the port is looked up as an address.
+#[tactic(auto, using(bus::proofs::PortSteps::first_small))]
 pub fn first_clocks(bus: Bus, port: u16) -> u32
     ensures { result ≡ first_clocks bus.machine bus.paging port bus.clock }
 {
@@ -52,6 +54,7 @@ pub fn first_clocks(bus: Bus, port: u16) -> u32
 }
 
 // Three held steps one after the other, of 1 clock, 1 clock and none.
+#[tactic(auto, using(machine::proofs::Bounds::delay_small), unfolding(bus::specs::Clocks::held_thrice, bus::specs::Clocks::held_twice))]
 fn held_thrice(m: ZXMachine, clock: u32) -> u32
     requires { clock < 2 ^ 31 }
     ensures { result ≡ held_thrice (specs_of m) clock }
@@ -63,21 +66,23 @@ fn held_thrice(m: ZXMachine, clock: u32) -> u32
 }
 
 // What the last part of a port call takes from a clock on.
+#[tactic(auto, using(machine::proofs::Bounds::delay_small), unfolding(bus::specs::Clocks::last_clocks))]
 pub fn last_clocks(bus: Bus, clock: u32, port: u16) -> u32
     requires { clock < 2 ^ 31 }
     ensures { result ≡ last_clocks bus.machine bus.paging port clock }
 {
     let m = bus.machine;
     if m.port_is_contended(port) {
-        return m.contention(clock).clocks() + 2;
+        m.contention(clock).clocks() + 2
+    } else if Map::from(bus).addr_is_contended(port) {
+        held_thrice(m, clock)
+    } else {
+        2
     }
-    if memory::addr_is_contended(m, bus.paging, port) {
-        return held_thrice(m, clock);
-    }
-    2
 }
 
 // What both parts take, one after the other.
+#[tactic(auto, using(bus::proofs::PortSteps::first_small, bus::proofs::PortSteps::last_small))]
 pub fn part_clocks(bus: Bus, port: u16) -> u32
     requires { bus.clock + 7 < 2 ^ 31 }
     ensures { result ≡ part_clocks bus.machine bus.paging port bus.clock }

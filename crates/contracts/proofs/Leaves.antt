@@ -23,8 +23,7 @@ use Rattle.memory.specs.Memory.{ram_page, Holds}
 use Rattle.memory.proofs.Places.{exists_fits, map_holds, shown_exists}
 use Rattle.memory.proofs.Stored.{length_part}
 use Rattle.bus.specs.World.{clear_ram, clear_picture, clear_border}
-use Rattle.screen.specs.declared.Helped.{Helped}
-use Rattle.screen.specs.declared.Helped.TheVariants as helped
+use Rattle.std.specs.Prelude.{Option, Some, None}
 use Rattle.judgement.specs.declared.Refusal.{Refusal}
 use Rattle.judgement.specs.declared.Refusal.TheVariants.{BadLength, BadNumber}
 use Rattle.judgement.specs.Refusals.{refusal_number}
@@ -70,12 +69,12 @@ module _ (v j : Result Bus Refusal) (judged : v ≡ j) where
   part_accepted whole bus left p q = rw (← judged, p) q
 
 -- ---- the helpers
-module _ (h : Helped) (answer : List ℕ) where
-  pub help_number : (left : List ℕ) (n : ℕ) → length answer ≡ number_length → h ≡ helped.Number n → left ≡ number_answer n → told 0 left ≡ helper_call h answer
+module _ (h : Option ℕ) (answer : List ℕ) where
+  pub help_number : (left : List ℕ) (n : ℕ) → length answer ≡ number_length → h ≡ Some n → left ≡ number_answer n → told 0 left ≡ helper_call h answer
   unfolding helper_call
   help_number left n l p q = rw (eq-eqb (length answer) 5 l, p, q)
 
-  pub help_refused : (left : List ℕ) (r : ℕ) → length answer ≡ number_length → h ≡ helped.OutOfRange
+  pub help_refused : (left : List ℕ) (r : ℕ) → length answer ≡ number_length → h ≡ None
       → (r ≡ refusal_number BadNumber) × (left ≡ refused_answer 5 (refusal_number BadNumber) answer) → told r left ≡ helper_call h answer
   unfolding helper_call
   help_refused left r l p q = rw (eq-eqb (length answer) 5 l, p, q.0, q.1)

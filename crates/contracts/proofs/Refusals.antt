@@ -16,10 +16,8 @@ use Rattle.record.specs.declared.Bus.{Bus}
 use Rattle.record.specs.Record.{machine_of, start_record}
 use Rattle.bus.specs.World.{Core, started}
 use Rattle.bus.specs.Turns.{Part}
-use Rattle.screen.specs.declared.Helped.{Helped}
-use Rattle.screen.specs.declared.Helped.TheVariants as helped
+use Rattle.std.specs.Prelude.{Option, Some, None}
 use Rattle.screen.specs.declared.ZXColor.{ZXColor}
-use Rattle.screen.specs.declared.Coloured.TheVariants as coloured
 use Rattle.screen.specs.Address.{is_attribute}
 use Rattle.screen.specs.Colour.{colour_of, colour_number}
 use Rattle.judgement.specs.declared.Refusal.{Refusal}
@@ -364,8 +362,8 @@ module _ (l : Lent) (file registers : List ℕ) (machine : ℕ) where
 
 -- ---- the helpers
 -- a helper that answers within its range only
-abbrev ranged : Bool → ℕ → Helped
-ranged t k = cond t (helped.Number k) helped.OutOfRange
+abbrev ranged : Bool → ℕ → Option ℕ
+ranged t k = cond t (Some k) None
 
 helper_code : (t f : Bool) (k : ℕ) (answer : List ℕ) (bus : Bus)
     → (cond f (help (ranged t k) answer) (told (refusal_number BadLength) answer)).code ≡ code_of (judged (unless f ∷ cause BadNumber (not t) ∷ []) bus)
@@ -380,15 +378,15 @@ helper_numbered t k answer =
     let bus = start_record Sinclair48K 0 in
     two_numbered _ _ bus (helper_code t (number_fits (length answer)) k answer bus) refl
 
-pub helper_unaltered : (h : Helped) (answer : List ℕ) → ((helper_call h answer).code ≡ 0 → ⊥)
+pub helper_unaltered : (h : Option ℕ) (answer : List ℕ) → ((helper_call h answer).code ≡ 0 → ⊥)
     → (helper_call h answer).answer ≡ refused_answer number_length (helper_call h answer).code answer
 unfolding helper_call
 helper_unaltered h answer n = by h (number_fits (length answer)) refl n where
-  by : (h : Helped) (f : Bool) → number_fits (length answer) ≡ f → ((cond f (help h answer) (told (refusal_number BadLength) answer)).code ≡ 0 → ⊥)
+  by : (h : Option ℕ) (f : Bool) → number_fits (length answer) ≡ f → ((cond f (help h answer) (told (refusal_number BadLength) answer)).code ≡ 0 → ⊥)
       → (cond f (help h answer) (told (refusal_number BadLength) answer)).answer
       ≡ refused_answer number_length (cond f (help h answer) (told (refusal_number BadLength) answer)).code answer
-  by (helped.Number k) true e n = absurd (n refl)
-  by helped.OutOfRange true e n = refl
+  by (Some k) true e n = absurd (n refl)
+  by None true e n = refl
   by h false e n = left_alone answer (refusal_number BadLength) e
 
 pub bitmap_line_addr_numbered : (line : ℕ) (answer : List ℕ) → Numbered (bitmap_line_addr line answer).code (helper_causes (leb line 191) answer)
@@ -406,7 +404,7 @@ attr_row_rel_numbered addr answer = helper_numbered (is_attribute addr) _ answer
 pub attr_col_rel_numbered : (addr : ℕ) (answer : List ℕ) → Numbered (attr_col_rel addr answer).code (helper_causes (is_attribute addr) answer)
 attr_col_rel_numbered addr answer = helper_numbered (is_attribute addr) _ answer
 
-colour_ranged : (t : Bool) (c : ZXColor) → colour_helped (cond t (coloured.Colour c) coloured.OutOfRange) ≡ ranged t (colour_number c)
+colour_ranged : (t : Bool) (c : ZXColor) → colour_helped (cond t (Some c) None) ≡ ranged t (colour_number c)
 colour_ranged true c = refl
 colour_ranged false c = refl
 

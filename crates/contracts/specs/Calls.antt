@@ -1,7 +1,7 @@
 -- ONE TYPE OF CALL: each function of the C surface with all that it is handed but the machine's own buffers; what it leaves, by its definition;
 -- for which causes it is refused; and what the firmware lends of its buffers, by mistake too little or too much.
 -- Assumes nothing.
-use Rattle.std.specs.Prelude.{ℕ, Bool, not, List, [], ◌∷◌, ◌++◌, ◌≡◌, leb, length, take, drop}
+use Rattle.std.specs.Prelude.{ℕ, Bool, not, List, [], ◌∷◌, ◌++◌, ◌≡◌, leb, length, take, drop, Option}
 use Rattle.machine.specs.declared.ZXMachine.{ZXMachine}
 use Rattle.ports.specs.Devices.{devices_of}
 use Rattle.bus.specs.Turns.{Part}
@@ -10,7 +10,6 @@ use Rattle.bus.specs.Pokes.{byte_write, page_load, passed_reset}
 use Rattle.record.specs.Record.{machine_of}
 use Rattle.snapshot.specs.File.{border_in}
 use Rattle.bus.specs.World.{World, started}
-use Rattle.screen.specs.declared.Helped.{Helped}
 use Rattle.screen.specs.Address.{line_address, line_at, column_at, attribute_row, attribute_column, is_attribute}
 use Rattle.screen.specs.Colour.{from_bits}
 use Rattle.judgement.specs.declared.Refusal.TheVariants.{BadNumber}
@@ -150,7 +149,7 @@ ops_of m (load_ram bytes page) c = page_load page bytes c
 ops_of m (load_screen file page) c = page_load page file c
 ops_of m (ask q out) c = []
 
-abbrev pub helped_by : Helper → ℕ → Helped
+abbrev pub helped_by : Helper → ℕ → Option ℕ
 helped_by line_addr n = line_address n
 helped_by line_of n = line_at n
 helped_by column_of n = column_at n

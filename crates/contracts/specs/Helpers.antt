@@ -1,10 +1,7 @@
 -- Document 01: the five address helpers and `ZXColor::from_bits`, as C calls them.
 -- Assumes nothing.
-use Rattle.std.specs.Prelude.{ℕ, cond, List, length}
-use Rattle.screen.specs.declared.Helped.{Helped}
-use Rattle.screen.specs.declared.Helped.TheVariants as helped
-use Rattle.screen.specs.declared.Coloured.{Coloured}
-use Rattle.screen.specs.declared.Coloured.TheVariants as coloured
+use Rattle.std.specs.Prelude.{ℕ, cond, List, length, Option, Some, None}
+use Rattle.screen.specs.declared.ZXColor.{ZXColor}
 use Rattle.screen.specs.Address.{line_address, line_at, column_at, attribute_row, attribute_column}
 use Rattle.screen.specs.Colour.{from_bits, colour_number}
 use Rattle.judgement.specs.declared.Refusal.TheVariants.{BadLength, BadNumber}
@@ -14,17 +11,17 @@ use Rattle.judgement.specs.Answers.{number_answer, refused_answer, number_length
 use Rattle.contracts.specs.Plain.{Told, told}
 
 -- 01's number and values for each case of a helper's answer. "other lengths", then 8: "a helper's number outside its range"
-abbrev pub help : Helped → List ℕ → Told
-help (helped.Number n) answer = told 0 (number_answer n)
-help helped.OutOfRange answer = told (refusal_number BadNumber) (refused_answer number_length (refusal_number BadNumber) answer)
+abbrev pub help : Option ℕ → List ℕ → Told
+help (Some n) answer = told 0 (number_answer n)
+help None answer = told (refusal_number BadNumber) (refused_answer number_length (refusal_number BadNumber) answer)
 
-unfoldable pub helper_call : Helped → List ℕ → Told
+unfoldable pub helper_call : Option ℕ → List ℕ → Told
 helper_call h answer = cond (number_fits (length answer)) (help h answer) (told (refusal_number BadLength) answer)
 
 -- a colour is given by its number
-abbrev pub colour_helped : Coloured → Helped
-colour_helped (coloured.Colour c) = helped.Number (colour_number c)
-colour_helped coloured.OutOfRange = helped.OutOfRange
+abbrev pub colour_helped : Option ZXColor → Option ℕ
+colour_helped (Some c) = Some (colour_number c)
+colour_helped None = None
 
 abbrev pub bitmap_line_addr : ℕ → List ℕ → Told
 bitmap_line_addr n answer = helper_call (line_address n) answer

@@ -10,8 +10,8 @@ use native.Mathlib.Decide.{dec_lt}
 use lib.ListN.{length, get_or}
 use borrow.Author.Tests.{le-leb, lt-leb, leb-true}
 use Rattle.machine.specs.declared.ZXMachine.{ZXMachine}
-use Rattle.machine.specs.declared.BorderPlace.{BorderPlace}
-use Rattle.machine.specs.declared.BorderPlace.TheVariants.{At, FrameEnd}
+use Rattle.machine.specs.declared.BorderPixel.{BorderPixel}
+use Rattle.std.specs.Prelude.{Option, Some, None}
 use Rattle.machine.specs.Numbers.{specs_of}
 use Rattle.machine.specs.Timing.{border_at, place_position, border_position, is_frame_end, frame_end}
 use Rattle.machine.proofs.Numbered.{regular}
@@ -102,7 +102,7 @@ finished_is x false e = rw e
 abbrev recoloured : ℕ → Edge → Edge
 recoloured k x = record { colour = k; blocked = x.blocked; pairs = x.pairs; pixels = x.pixels }
 
-inked_is : (b : BorderPlace) (k : ℕ) (x : Edge) (t : Bool) → x.blocked ≡ t → inked b k x ≡ cond t (recoloured k x) (inked_at b k x)
+inked_is : (b : Option BorderPixel) (k : ℕ) (x : Edge) (t : Bool) → x.blocked ≡ t → inked b k x ≡ cond t (recoloured k x) (inked_at b k x)
 unfolding inked
 inked_is b k x t e = ap (λ (z : Bool). cond z (recoloured k x) (inked_at b k x)) e
 
@@ -164,24 +164,24 @@ module _ (m : ZXMachine) where
     half : (n : ℕ) → n % 2 ≡ 0 → 2 * (n / 2) ≡ n
     half n e = omega arith
 
-    open_at : (b : BorderPlace) → border_at (specs_of m) c.clock ≡ b → x.blocked ≡ false → Wrote k c l (inked_at b k x)
+    open_at : (b : Option BorderPixel) → border_at (specs_of m) c.clock ≡ b → x.blocked ≡ false → Wrote k c l (inked_at b k x)
     unfolding inked_at
-    open_at (At line pixel) e z =
-        let q : ℕ = 320 * line + pixel in
+    open_at (Some at) e z =
+        let q : ℕ = 320 * at.line + at.pixel in
         let pos : border_position (specs_of m) c.clock ≡ q = ap place_position e in
         let even : q % 2 ≡ 0 = sym (ap (λ (n : ℕ). n % 2) pos) ∙ border_even (specs_of m) c.clock in
         let from : painted_to x ≡ 2 * x.pairs = rw z in
         wrote q pos (omega (arith, p.behind)) _ refl (λ y. absurd (never y)) (omega arith) (half q even)
         (ap (λ (n : ℕ). filled n q x.colour x.pixels) (sym from))
-    open_at FrameEnd e z =
+    open_at None e z =
         let pos : border_position (specs_of m) c.clock ≡ 76800 = ap place_position e in
         let from : painted_to x ≡ 2 * x.pairs = rw z in
         wrote 76800 pos (omega (arith, p.behind)) _ refl (λ y. ap is_frame_end e) (omega arith) refl
         (ap (λ (n : ℕ). filled n 76800 x.colour x.pixels) (sym from))
 
-    end_place : (b : BorderPlace) → is_frame_end b ≡ true → place_position b ≡ 76800
-    end_place (At line pixel) e = absurd (never e)
-    end_place FrameEnd e = refl
+    end_place : (b : Option BorderPixel) → is_frame_end b ≡ true → place_position b ≡ 76800
+    end_place (Some at) e = absurd (never e)
+    end_place None e = refl
 
     inked_by : (b : Bool) → x.blocked ≡ b → Wrote k c l (inked (border_at (specs_of m) c.clock) k x)
     inked_by true z =

@@ -188,20 +188,19 @@ pub fn judge_port(
     ensures { result ≡ judge_port state.now devices.now ram a b border answer }
 {
     let bus = record::look(state)?;
-    if devices.len() == ports::DEVICES_LENGTH {
-        let fit = lent_fit(bus, ram, a, b, border) & (answer == TIMED_LENGTH);
-        first_cause(
-            bus,
-            Causes {
-                length: !fit,
-                flag: !ports::flags(devices),
-                frames: frames_full(bus),
-                ..Causes::default()
-            },
-        )
-    } else {
-        Err(Refusal::BadLength)
-    }
+    let Ok(devices) = devices.try_into() else {
+        return Err(Refusal::BadLength);
+    };
+    let fit = lent_fit(bus, ram, a, b, border) & (answer == TIMED_LENGTH);
+    first_cause(
+        bus,
+        Causes {
+            length: !fit,
+            flag: !ports::flags(devices),
+            frames: frames_full(bus),
+            ..Causes::default()
+        },
+    )
 }
 
 // The record, and a number to give.

@@ -1,13 +1,13 @@
 -- How large the readings of a clock can be, over any machine's numbers.
 -- Assumes nothing.
-use mathlib.Core.Path.{◌≡◌, refl, subst}
+use mathlib.Core.Path.{◌≡◌, refl, sym, subst}
 use Prim.Native.Nat.{ℕ, ◌+◌, ◌-◌, ◌*◌, ◌/◌, ◌%◌, ◌<◌, ◌≤◌}
 use native.Mathlib.Omega.{arith}
 use Rattle.laws.proofs.Cases.{by_lt, by_le}
 use Rattle.machine.specs.declared.ZXSpecs.{ZXSpecs}
 use Rattle.machine.specs.declared.BlocksCount.{BlocksCount}
-use Rattle.machine.specs.declared.BorderPlace.{BorderPlace}
-use Rattle.machine.specs.declared.BorderPlace.TheVariants.{At, FrameEnd}
+use Rattle.machine.specs.declared.BorderPixel.{BorderPixel}
+use Rattle.std.specs.Prelude.{Option, Some, None}
 use Rattle.machine.specs.Timing.{delay, blocks_capped, blocks_from, blocks_at, block_position, border_capped, border_from, border_at}
 use Rattle.machine.proofs.Pattern.{worked_out}
 use Rattle.machine.proofs.Why.{number_is}
@@ -50,9 +50,9 @@ pub position_small : (s : ZXSpecs) (t : ℕ) → block_position s t ≤ 6144
 position_small s t = (blocks_small s t).in_all
 
 -- a place of the border that is not frame end is one of 240 lines and at most pixel 320, and its pixel is even
-abbrev pub Within : BorderPlace → Type 0
-Within (At line pixel) = (line < 240) × (pixel ≤ 320) × (pixel % 2 ≡ 0)
-Within FrameEnd = Unit {0}
+abbrev pub Within : Option BorderPixel → Type 0
+Within (Some p) = (p.line < 240) × (p.pixel ≤ 320) × (p.pixel % 2 ≡ 0)
+Within None = Unit {0}
 
 in_within : (line pixel : ℕ) → pixel ≤ 320 → pixel % 2 ≡ 0 → Within (border_capped line pixel)
 unfolding border_capped
@@ -69,5 +69,5 @@ border_within s t =
     (λ h. from_within ((t - s.border) / s.line) (2 * ((t - s.border) % s.line + 1)) (omega arith))
 
 -- the same of a place that is known to be a line and a pixel
-pub at_within : (s : ZXSpecs) (t line pixel : ℕ) → border_at s t ≡ At line pixel → (line < 240) × (pixel ≤ 320) × (pixel % 2 ≡ 0)
-at_within s t line pixel e = subst Within e (border_within s t)
+pub at_within : (s : ZXSpecs) (t : ℕ) (p : BorderPixel) → Some p ≡ border_at s t → (p.line < 240) × (p.pixel ≤ 320) × (p.pixel % 2 ≡ 0)
+at_within s t p e = subst Within (sym e) (border_within s t)

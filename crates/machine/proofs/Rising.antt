@@ -9,10 +9,10 @@ use borrow.Author.Tests.{lt-ltb, le-ltb, le-leb, lt-leb}
 use lib.Dec.{leb}
 use Rattle.laws.proofs.Cases.{split}
 use Rattle.machine.specs.declared.ZXSpecs.{ZXSpecs}
-use Rattle.machine.specs.declared.BorderPlace.{BorderPlace}
-use Rattle.machine.specs.declared.BorderPlace.TheVariants.{At, FrameEnd}
+use Rattle.machine.specs.declared.BorderPixel.{BorderPixel}
+use Rattle.std.specs.Prelude.{Option, Some, None}
 use Rattle.machine.specs.Numbers.{Regular}
-use Rattle.machine.specs.Timing.{blocks_capped, blocks_from, blocks_at, block_position, border_capped, border_from, border_at, border_position, place_position, is_frame_end, frame_end}
+use Rattle.machine.specs.Timing.{blocks_capped, blocks_from, blocks_at, block_position, border_capped, border_from, border_at, border_position, pixel_at, place_position, is_frame_end, frame_end}
 use Rattle.machine.specs.Pages.{ticks, passed}
 use Rattle.machine.proofs.Agree.{blocks_are, pairs_are}
 use Rattle.machine.proofs.Bounds.{Within, border_within}
@@ -82,9 +82,9 @@ last_block s w t h =
     (λ k. simp (le-ltb t s.block b, le-ltb 32 x k, lt-leb 192 q g) (omega arith))
     (λ k. simp (le-ltb t s.block b, lt-ltb 32 x k, le-leb 192 (q + 1) (omega arith))))
 
-end_position : (p : BorderPlace) → is_frame_end p ≡ true → place_position p ≡ 76800
-end_position (At line pixel) e = cc
-end_position FrameEnd e = refl
+end_position : (p : Option BorderPixel) → is_frame_end p ≡ true → place_position p ≡ 76800
+end_position (Some q) e = cc
+end_position None e = refl
 
 -- at the frame's last clock, and past it, all 6,144 blocks have come and the border is at its end
 module _ (s : ZXSpecs) (g : Regular s) (t : ℕ) (h : s.frame ≤ t + 1) where
@@ -97,12 +97,12 @@ module _ (s : ZXSpecs) (g : Regular s) (t : ℕ) (h : s.frame ≤ t + 1) where
   pub border_position_at_end : border_position s t ≡ 76800
   border_position_at_end = end_position (border_at s t) border_at_end
 
-is_end : (p : BorderPlace) → is_frame_end p ≡ true → p ≡ FrameEnd
-is_end (At line pixel) e = cc
-is_end FrameEnd e = refl
+is_end : (p : Option BorderPixel) → is_frame_end p ≡ true → p ≡ None
+is_end (Some q) e = cc
+is_end None e = refl
 
 -- there the border's place is frame end
-pub border_end : (s : ZXSpecs) → Regular s → (t : ℕ) → s.frame ≤ t + 1 → border_at s t ≡ FrameEnd
+pub border_end : (s : ZXSpecs) → Regular s → (t : ℕ) → s.frame ≤ t + 1 → border_at s t ≡ None
 border_end s g t h = is_end (border_at s t) (border_at_end s g t h)
 
 -- before the first block no block has come, and before the first border pixel none
@@ -110,19 +110,19 @@ pub position_before : (s : ZXSpecs) (t : ℕ) → t < s.block → block_position
 unfolding blocks_at
 position_before s t h = rw (lt-ltb t s.block h)
 
-pub border_before : (s : ZXSpecs) (t : ℕ) → t < s.border → border_at s t ≡ At 0 0
+pub border_before : (s : ZXSpecs) (t : ℕ) → t < s.border → border_at s t ≡ pixel_at 0 0
 unfolding border_at
 border_before s t h = rw (lt-ltb t s.border h)
 
 -- no border position is over 76,800, and each is even
 pub border_small : (s : ZXSpecs) (t : ℕ) → border_position s t ≤ 76800
 border_small s t = of_place (border_at s t) (border_within s t) where
-  of_place : (p : BorderPlace) → Within p → place_position p ≤ 76800
-  of_place (At line pixel) w = omega (arith, w.0, w.1)
-  of_place FrameEnd w = omega arith
+  of_place : (p : Option BorderPixel) → Within p → place_position p ≤ 76800
+  of_place (Some q) w = omega (arith, w.0, w.1)
+  of_place None w = omega arith
 
 pub border_even : (s : ZXSpecs) (t : ℕ) → border_position s t % 2 ≡ 0
 border_even s t = of_place (border_at s t) (border_within s t) where
-  of_place : (p : BorderPlace) → Within p → place_position p % 2 ≡ 0
-  of_place (At line pixel) w = omega (arith, w.2)
-  of_place FrameEnd w = refl
+  of_place : (p : Option BorderPixel) → Within p → place_position p % 2 ≡ 0
+  of_place (Some q) w = omega (arith, w.2)
+  of_place None w = refl

@@ -1,12 +1,11 @@
 -- Document 01, "Numbers of the two machines": delay, block position, border position and interrupt at a clock of the frame.
 -- Assumes nothing.
-use Rattle.std.specs.Prelude.{ℕ, ◌+◌, ◌-◌, ◌*◌, ◌/◌, ◌%◌, Bool, true, false, cond, List, [], ◌∷◌, ltb, leb, get_or}
+use Rattle.std.specs.Prelude.{ℕ, ◌+◌, ◌-◌, ◌*◌, ◌/◌, ◌%◌, Bool, true, false, cond, List, [], ◌∷◌, ltb, leb, get_or, Option, Some, None}
 use Rattle.machine.specs.declared.ZXSpecs.{ZXSpecs}
 use Rattle.machine.specs.declared.Delay.{Delay}
 use Rattle.machine.specs.declared.Delay.TheVariants.{Held, Outside}
 use Rattle.machine.specs.declared.BlocksCount.{BlocksCount}
-use Rattle.machine.specs.declared.BorderPlace.{BorderPlace}
-use Rattle.machine.specs.declared.BorderPlace.TheVariants.{At, FrameEnd}
+use Rattle.machine.specs.declared.BorderPixel.{BorderPixel}
 use Rattle.machine.specs.Limits.{border_length}
 
 -- "6 5 4 3 2 1 0 0"
@@ -60,31 +59,35 @@ blocks_at s clock =
 abbrev pub block_position : ZXSpecs → ℕ → ℕ
 block_position s clock = 32 * (blocks_at s clock).lines + (blocks_at s clock).columns
 
+-- a line and a pixel of the border; at frame end there is none
+abbrev pub pixel_at : ℕ → ℕ → Option BorderPixel
+pixel_at line pixel = Some (record { line = line; pixel = pixel })
+
 -- "line 240 or later is frame end"
-unfoldable pub border_capped : ℕ → ℕ → BorderPlace
-border_capped line pixel = cond (leb 240 line) FrameEnd (At line pixel)
+unfoldable pub border_capped : ℕ → ℕ → Option BorderPixel
+border_capped line pixel = cond (leb 240 line) None (pixel_at line pixel)
 
 -- "a pixel above 320 becomes pixel 0 of the next line"
-unfoldable pub border_from : ℕ → ℕ → BorderPlace
+unfoldable pub border_from : ℕ → ℕ → Option BorderPixel
 border_from line pixel = cond (ltb 320 pixel) (border_capped (line + 1) 0) (border_capped line pixel)
 
 -- "Before the border origin 0. Otherwise line c / line length and pixel 2 x (c mod line length + 1)"
-unfoldable pub border_at : ZXSpecs → ℕ → BorderPlace
+unfoldable pub border_at : ZXSpecs → ℕ → Option BorderPixel
 border_at s clock =
-    cond (ltb clock s.border) (At 0 0)
+    cond (ltb clock s.border) (pixel_at 0 0)
     (border_from ((clock - s.border) / s.line) (2 * ((clock - s.border) % s.line + 1)))
 
 -- "Position = 320 x line + pixel"; frame end is behind the last of the 76,800 pixels
-abbrev pub place_position : BorderPlace → ℕ
-place_position (At line pixel) = 320 * line + pixel
-place_position FrameEnd = border_length
+abbrev pub place_position : Option BorderPixel → ℕ
+place_position (Some p) = 320 * p.line + p.pixel
+place_position None = border_length
 
 abbrev pub border_position : ZXSpecs → ℕ → ℕ
 border_position s clock = place_position (border_at s clock)
 
-abbrev pub is_frame_end : BorderPlace → Bool
-is_frame_end (At line pixel) = false
-is_frame_end FrameEnd = true
+abbrev pub is_frame_end : Option BorderPixel → Bool
+is_frame_end (Some p) = false
+is_frame_end None = true
 
 abbrev pub frame_end : ZXSpecs → ℕ → Bool
 frame_end s clock = is_frame_end (border_at s clock)

@@ -120,11 +120,11 @@ pub struct BlocksCount {
     pub columns: u32,
 }
 
-// Where the border's beam is: at a line and a pixel, or past the last one.
+// A place of the border. Past the last one, at frame end, the beam is at None.
 #[derive(Clone, Copy)]
-pub enum BorderPlace {
-    At { line: u32, pixel: u32 },
-    FrameEnd,
+pub struct BorderPixel {
+    pub line: u32,
+    pub pixel: u32,
 }
 
 impl ZXMachine {
@@ -156,7 +156,8 @@ impl ZXMachine {
         }
     }
 
-    pub fn next_border_pixel(self, clocks: u32) -> BorderPlace
+    // Where the border's beam is; None at frame end.
+    pub fn next_border_pixel(self, clocks: u32) -> Option<BorderPixel>
         ensures { result ≡ border_at (specs_of self) clocks }
     {
         match self {
@@ -175,13 +176,12 @@ impl ZXMachine {
     }
 
     // The border position as one number, 76,800 at frame end.
-    #[tactic(auto, using(crate::proofs::Bounds::at_within))]
     pub fn border_position(self, clocks: u32) -> u32
         ensures { result ≡ border_position (specs_of self) clocks }
     {
         match self.next_border_pixel(clocks) {
-            BorderPlace::At { line, pixel } => 320 * line + pixel,
-            BorderPlace::FrameEnd => 76800,
+            Some(place) => 320 * place.line + place.pixel,
+            None => 76800,
         }
     }
 
@@ -317,13 +317,13 @@ fn blocks_by<M: Numbers>(clocks: u32) -> BlocksCount
 }
 
 #[tactic(auto, unfolding(crate::specs::Timing::border_at, crate::specs::Timing::border_from, crate::specs::Timing::border_capped))]
-fn border_by<M: Numbers>(clocks: u32) -> BorderPlace
+fn border_by<M: Numbers>(clocks: u32) -> Option<BorderPixel>
     ensures { result ≡ border_at M.SPECS clocks }
 {
     let origin = M::SPECS.border;
     let line = M::SPECS.line;
     if clocks < origin {
-        return BorderPlace::At { line: 0, pixel: 0 };
+        return Some(BorderPixel { line: 0, pixel: 0 });
     }
     let c = clocks - origin;
     let row = c / line;
@@ -334,9 +334,9 @@ fn border_by<M: Numbers>(clocks: u32) -> BorderPlace
         (row, pixel)
     };
     if 240 <= row {
-        BorderPlace::FrameEnd
+        None
     } else {
-        BorderPlace::At { line: row, pixel }
+        Some(BorderPixel { line: row, pixel })
     }
 }
 

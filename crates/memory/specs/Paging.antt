@@ -5,8 +5,10 @@ use Rattle.machine.specs.declared.ZXMachine.{ZXMachine}
 use Rattle.machine.specs.declared.ZXMachine.TheVariants.{Sinclair48K, Sinclair128K}
 use Rattle.machine.specs.Contended.{bank_contended}
 use Rattle.machine.specs.Limits.{page_length}
+use Rattle.record.specs.declared.Bus.{Bus}
 use Rattle.memory.specs.declared.Page.{Page}
 use Rattle.memory.specs.declared.Page.TheVariants.{Rom, Ram}
+use Rattle.memory.specs.declared.Map.{Map}
 use Rattle.memory.specs.declared.Paged.{Paged}
 use Rattle.memory.specs.declared.Paged.TheVariants.{Absent, Locked, Taken}
 
@@ -25,6 +27,10 @@ memory_map Sinclair128K paging = Rom (bit 4 paging) ∷ Ram 5 ∷ Ram 2 ∷ Ram 
 -- the page at a block; a call refuses a block above 3 before it asks, and the map would answer ROM 0
 abbrev pub page_at : ZXMachine → ℕ → ℕ → Page
 page_at m paging block = get_or (memory_map m paging) block (Rom 0)
+
+-- the map of the bus is that of its machine and its 7FFD byte
+abbrev pub map_of : Bus → Map
+map_of bus = record { machine = bus.machine; paging = bus.paging }
 
 -- "the shown page (page 0 on 48K, 5 or 7 on 128K)", "bit 3 shows page 7"
 abbrev pub shown_page : ZXMachine → ℕ → ℕ

@@ -6,11 +6,12 @@
 ghost use Rattle.std.specs.Prelude.{◌≡◌, ◌+◌, ◌*◌, ◌/◌, ◌≤◌, length};
 ghost use Rattle.machine.specs.Numbers.{specs_of};
 ghost use Rattle.machine.specs.Limits.{page_length};
-ghost use Rattle.memory.specs.Paging.{page_at, shown_page, addr_contended, write7ffd, paged_code, paging_after, last_page, page_exists};
+ghost use Rattle.memory.specs.Paging.{page_at, shown_page, addr_contended, write7ffd, paged_code, paging_after, last_page, page_exists, map_of};
 ghost use Rattle.memory.specs.Memory.{place_of, peeked, poked, Holds, page_part, ram_page, part_start, stored, loaded};
 ghost use Rattle.memory.specs.Screens.{screen_length, screen_file, video_page};
 
 use machine::ZXMachine;
+use record::Bus;
 
 // Bytes of a screen file: bitmap, then attributes.
 pub const SCREEN_LENGTH: usize = 6912;
@@ -37,93 +38,148 @@ pub enum Paged {
     Taken(u8),
 }
 
-// The page at a block of 16 KiB of the address space.
-pub fn get_bank_type(m: ZXMachine, paging: u8, block: u32) -> Page
-    ensures { result ≡ page_at m paging block }
-{
-    match m {
-        ZXMachine::Sinclair48K => match block {
-            1 => Page::Ram(0),
-            2 => Page::Ram(1),
-            3 => Page::Ram(2),
-            _ => Page::Rom(0),
-        },
-        ZXMachine::Sinclair128K => match block {
-            0 => Page::Rom((paging >> 4) & 0x01),
-            1 => Page::Ram(5),
-            2 => Page::Ram(2),
-            3 => Page::Ram(paging & 0x07),
-            _ => Page::Rom(0),
-        },
+impl Paged {
+    // The number that the 7FFD write answers.
+    pub fn code(self) -> u8
+        ensures { result ≡ paged_code self }
+    {
+        match self {
+            Paged::Absent => 0,
+            Paged::Locked => 6,
+            Paged::Taken(_) => 5,
+        }
     }
-}
 
-// The page at an address.
-pub fn get_page(m: ZXMachine, paging: u8, addr: u16) -> Page
-    ensures { result ≡ page_at m paging (addr / page_length) }
-{
-    get_bank_type(m, paging, (addr / 16384) as u32)
-}
-
-// The RAM page that the screen shows.
-pub fn screen_bank(m: ZXMachine, paging: u8) -> u8
-    ensures { result ≡ shown_page m paging }
-{
-    match m {
-        ZXMachine::Sinclair48K => 0,
-        ZXMachine::Sinclair128K => { if paging & 0x08 == 0 { 5 } else { 7 } }
-    }
-}
-
-// Whether the page at an address is contended. It goes by the block and not through the page: of a match over the four blocks the compiler
-// makes a table of jumps, and the timing path reads no table. Block 1 is RAM 0 or 5, block 3 of the 128K the paged bank.
-pub fn addr_is_contended(m: ZXMachine, paging: u8, addr: u16) -> bool
-    ensures { result ≡ addr_contended m paging addr }
-{
-    let block = addr / 16384;
-    match m {
-        ZXMachine::Sinclair48K => block == 1,
-        ZXMachine::Sinclair128K => {
-            (block == 1) | ((block == 3) & m.bank_is_contended((paging & 0x07) as u32))
+    // The 7FFD byte held after the write.
+    pub fn paging_after(self, held: u8) -> u8
+        ensures { result ≡ paging_after self held }
+    {
+        match self {
+            Paged::Taken(value) => value,
+            Paged::Absent => held,
+            Paged::Locked => held,
         }
     }
 }
 
-// A write of the 7FFD port over the byte held until now. The map is a function of the held byte, so the write that locks has remapped.
-pub fn write_7ffd(m: ZXMachine, paging: u8, value: u8) -> Paged
-    ensures { result ≡ write7ffd m paging value }
-{
-    match m {
-        ZXMachine::Sinclair48K => Paged::Absent,
-        ZXMachine::Sinclair128K => {
-            if paging & 0x20 == 0 {
-                Paged::Taken(value)
-            } else {
-                Paged::Locked
+// The map of the address space: a machine, and its 7FFD byte.
+#[derive(Clone, Copy)]
+pub struct Map {
+    pub machine: ZXMachine,
+    pub paging: u8,
+}
+
+impl From<Bus> for Map {
+    ghost from_gives = { λ bus map. map ≡ map_of bus };
+
+    fn from(bus: Bus) -> Map {
+        Map {
+            machine: bus.machine,
+            paging: bus.paging,
+        }
+    }
+}
+
+impl Map {
+    // The page at a block of 16 KiB of the address space.
+    pub fn get_bank_type(self, block: u32) -> Page
+        ensures { result ≡ page_at self.machine self.paging block }
+    {
+        match self.machine {
+            ZXMachine::Sinclair48K => match block {
+                1 => Page::Ram(0),
+                2 => Page::Ram(1),
+                3 => Page::Ram(2),
+                _ => Page::Rom(0),
+            },
+            ZXMachine::Sinclair128K => match block {
+                0 => Page::Rom((self.paging >> 4) & 0x01),
+                1 => Page::Ram(5),
+                2 => Page::Ram(2),
+                3 => Page::Ram(self.paging & 0x07),
+                _ => Page::Rom(0),
+            },
+        }
+    }
+
+    // The page at an address.
+    pub fn get_page(self, addr: u16) -> Page
+        ensures { result ≡ page_at self.machine self.paging (addr / page_length) }
+    {
+        self.get_bank_type(u32::from(addr / 16384))
+    }
+
+    // The RAM page that the screen shows.
+    pub fn screen_bank(self) -> u8
+        ensures { result ≡ shown_page self.machine self.paging }
+    {
+        match self.machine {
+            ZXMachine::Sinclair48K => 0,
+            ZXMachine::Sinclair128K => { if self.paging & 0x08 == 0 { 5 } else { 7 } }
+        }
+    }
+
+    // Whether the page at an address is contended. It goes by the block and not through the page: of a match over the four blocks the compiler
+    // makes a table of jumps, and the timing path reads no table. Block 1 is RAM 0 or 5, block 3 of the 128K the paged bank.
+    pub fn addr_is_contended(self, addr: u16) -> bool
+        ensures { result ≡ addr_contended self.machine self.paging addr }
+    {
+        let block = addr / 16384;
+        match self.machine {
+            ZXMachine::Sinclair48K => block == 1,
+            ZXMachine::Sinclair128K => {
+                let paged = u32::from(self.paging & 0x07);
+                (block == 1) | ((block == 3) & self.machine.bank_is_contended(paged))
             }
         }
     }
-}
 
-// The number that the 7FFD write answers.
-pub fn paged_code(p: Paged) -> u8
-    ensures { result ≡ paged_code p }
-{
-    match p {
-        Paged::Absent => 0,
-        Paged::Locked => 6,
-        Paged::Taken(_) => 5,
+    // A write of the 7FFD port over the byte held until now. The map is a function of the held byte, so the write that locks has remapped.
+    pub fn write_7ffd(self, value: u8) -> Paged
+        ensures { result ≡ write7ffd self.machine self.paging value }
+    {
+        match self.machine {
+            ZXMachine::Sinclair48K => Paged::Absent,
+            ZXMachine::Sinclair128K => {
+                if self.paging & 0x20 == 0 {
+                    Paged::Taken(value)
+                } else {
+                    Paged::Locked
+                }
+            }
+        }
     }
-}
 
-// The 7FFD byte held after the write.
-pub fn paging_after(p: Paged, held: u8) -> u8
-    ensures { result ≡ paging_after p held }
-{
-    match p {
-        Paged::Absent => held,
-        Paged::Locked => held,
-        Paged::Taken(value) => value,
+    // The place of the byte at an address.
+    pub fn place_of(self, addr: u16) -> Place
+        ensures { result ≡ place_of self.machine self.paging addr }
+    {
+        let offset = usize::from(addr % 16384);
+        match self.get_page(addr) {
+            Page::Rom(p) => Place::Rom(machine::PAGE_LENGTH * usize::from(p) + offset),
+            Page::Ram(p) => Place::Ram(machine::PAGE_LENGTH * usize::from(p) + offset),
+        }
+    }
+
+    // The byte at an address.
+    pub fn read(self, rom: &[u8], ram: &[u8], addr: u16) -> u8
+        requires { (length rom.now ≡ (specs_of self.machine).rom) × (length ram.now ≡ (specs_of self.machine).ram) }
+        ensures { result ≡ peeked self.machine self.paging rom.now ram.now addr }
+    {
+        match self.place_of(addr) {
+            Place::Rom(at) => rom[at],
+            Place::Ram(at) => ram[at],
+        }
+    }
+
+    // A byte written at an address: ROM takes none.
+    pub fn write(self, ram: &mut [u8], addr: u16, value: u8)
+        requires { length ram.old ≡ (specs_of self.machine).ram }
+        ensures { ram.new ≡ poked self.machine self.paging ram.old addr value }
+    {
+        if let Place::Ram(at) = self.place_of(addr) {
+            ram[at] = value;
+        }
     }
 }
 
@@ -143,58 +199,14 @@ pub fn last_page(m: ZXMachine) -> u32
     }
 }
 
-// The place of the byte at an address.
-pub fn place_of(m: ZXMachine, paging: u8, addr: u16) -> Place
-    ensures { result ≡ place_of m paging addr }
-{
-    let page = get_page(m, paging, addr);
-    let offset = (addr % 16384) as usize;
-    match page {
-        Page::Rom(p) => Place::Rom(machine::PAGE_LENGTH * p as usize + offset),
-        Page::Ram(p) => Place::Ram(machine::PAGE_LENGTH * p as usize + offset),
-    }
-}
-
-// The byte at an address.
-pub fn read(m: ZXMachine, paging: u8, rom: &[u8], ram: &[u8], addr: u16) -> u8
-    requires { (length rom.now ≡ (specs_of m).rom) × (length ram.now ≡ (specs_of m).ram) }
-    ensures { result ≡ peeked m paging rom.now ram.now addr }
-{
-    let place = place_of(m, paging, addr);
-    match place {
-        Place::Rom(at) => rom[at],
-        Place::Ram(at) => ram[at],
-    }
-}
-
-// A byte written at an address: ROM takes none.
-pub fn write(m: ZXMachine, paging: u8, ram: &mut [u8], addr: u16, value: u8)
-    requires { length ram.old ≡ (specs_of m).ram }
-    ensures { ram.new ≡ poked m paging ram.old addr value }
-{
-    let place = place_of(m, paging, addr);
-    match place {
-        Place::Rom(_) => {}
-        Place::Ram(at) => {
-            ram[at] = value;
-        }
-    }
-}
-
 // A page as a part of the lent ROM or RAM.
 pub fn page_data<'a>(page: Page, rom: &'a [u8], ram: &'a [u8]) -> &'a [u8]
     requires { Holds page (length rom.now) (length ram.now) }
     ensures { result.now ≡ page_part page rom.now ram.now }
 {
     match page {
-        Page::Rom(p) => {
-            let at = machine::PAGE_LENGTH * p as usize;
-            &rom[at..at + machine::PAGE_LENGTH]
-        }
-        Page::Ram(p) => {
-            let at = machine::PAGE_LENGTH * p as usize;
-            &ram[at..at + machine::PAGE_LENGTH]
-        }
+        Page::Rom(p) => ram_page_data(rom, u32::from(p)),
+        Page::Ram(p) => ram_page_data(ram, u32::from(p)),
     }
 }
 
@@ -212,17 +224,8 @@ pub fn part_start(m: ZXMachine, page: Page) -> u32
     ensures { result ≡ part_start m page }
 {
     match page {
-        Page::Rom(p) => 16384 * p as u32,
-        Page::Ram(p) => rom_size(m) + 16384 * p as u32,
-    }
-}
-
-fn rom_size(m: ZXMachine) -> u32
-    ensures { result ≡ (specs_of m).rom }
-{
-    match m {
-        ZXMachine::Sinclair48K => 16384,
-        ZXMachine::Sinclair128K => 32768,
+        Page::Rom(p) => 16384 * u32::from(p),
+        Page::Ram(p) => m.specs().rom as u32 + 16384 * u32::from(p),
     }
 }
 
@@ -231,10 +234,8 @@ fn copy(src: &[u8], dst: &mut [u8])
     requires { length dst.old ≡ length src.now }
     ensures { dst.new ≡ src.now }
 {
-    let mut i = 0;
-    while i < src.len() {
-        dst[i] = src[i];
-        i += 1;
+    for (i, &byte) in src.iter().enumerate() {
+        dst[i] = byte;
     }
 }
 
@@ -271,6 +272,6 @@ pub fn save_screen(ram: &[u8], page: u8, file: &mut [u8])
     requires { (length file.old ≡ screen_length) × (page_length * page + page_length ≤ length ram.now) }
     ensures { file.new ≡ screen_file (ram_page page ram.now) }
 {
-    let from = machine::PAGE_LENGTH * page as usize;
+    let from = machine::PAGE_LENGTH * usize::from(page);
     copy(&ram[from..from + SCREEN_LENGTH], file);
 }

@@ -10,17 +10,14 @@ use borrow.Author.Tests.{lt-ltb, le-ltb, eq-eqb, ne_eqb}
 use lib.Dec.{eqb}
 use lib.ListN.{get_or}
 use lib.Bits.{bit_and}
+use Rattle.std.specs.Prelude.{Some, None}
 use Rattle.laws.proofs.Below.{same_bool}
 use Rattle.laws.proofs.Cases.{split, by_eq, cond_same, and_left, and_right}
 use Rattle.machine.specs.declared.ZXMachine.{ZXMachine}
 use Rattle.machine.specs.declared.ZXMachine.TheVariants.{Sinclair48K, Sinclair128K}
-use Rattle.ports.specs.declared.Extender.TheVariants as extender
-use Rattle.ports.specs.declared.Ay.{Ay}
-use Rattle.ports.specs.declared.Ay.TheVariants as ay
-use Rattle.ports.specs.declared.Joystick.TheVariants as joystick
-use Rattle.ports.specs.declared.Mouse.TheVariants as mouse
+use Rattle.ports.specs.declared.Device.{Device}
+use Rattle.ports.specs.declared.Device.TheVariants.{Absent, Present}
 use Rattle.ports.specs.declared.Devices.{Devices}
-use Rattle.ports.specs.declared.Answer.TheVariants.{Value, Floating}
 use Rattle.ports.specs.Keys.{selected, row_in, rows_and, keys_read}
 use Rattle.ports.specs.Order.{has7ffd, paging_port, ay_byte, read_order}
 use Rattle.ports.specs.Hearers.{Hearer, ay_select, ay_write, border, paging, listens, first_of, port_hearers}
@@ -172,17 +169,17 @@ page_fffc Sinclair48K = refl
 page_fffc Sinclair128K = refl
 
 -- ---- reads
-ay_inner : (a : Ay) (t : Bool) → cond t (ay_byte a) Floating ≡ cond (is_fitted a && t) (ay_byte a) Floating
-ay_inner ay.Absent t = cond_same t Floating
-ay_inner (ay.Present byte) t = refl
+ay_inner : (a : Device ℕ) (t : Bool) → cond t (ay_byte a) None ≡ cond (is_fitted a && t) (ay_byte a) None
+ay_inner Absent t = cond_same t None
+ay_inner (Present byte) t = refl
 
-answered : (a : Ay) (keys : ℕ) (t u : Bool) → as_answer a keys (cond t ula (cond u register nobody)) ≡ cond t (Value keys) (cond u (ay_byte a) Floating)
+answered : (a : Device ℕ) (keys : ℕ) (t u : Bool) → as_answer a keys (cond t ula (cond u register nobody)) ≡ cond t (Some keys) (cond u (ay_byte a) None)
 answered a keys true u = refl
 answered a keys false true = refl
 answered a keys false false = refl
 
 -- with no extender, mouse or joystick, which no page knows, a read is answered by the device that the pages name
-pub reads_agree : (d : Devices) (port : ℕ) → d.extender ≡ extender.Absent → d.mouse ≡ mouse.Absent → d.joystick ≡ joystick.Absent
+pub reads_agree : (d : Devices) (port : ℕ) → d.extender ≡ Absent → d.mouse ≡ Absent → d.joystick ≡ Absent
     → read_order d port ≡ as_answer d.ay (keys_read d.rows d.tape port) (page_read (is_fitted d.ay) port)
 unfolding read_order
 reads_agree d port e m j =

@@ -8,6 +8,7 @@ use native.Mathlib.Nat.{mod-eq_of_lt, mod-eq-sub-mod, div-eq_of_lt, div-eq-sub-d
 use native.Mathlib.Omega.{arith}
 use borrow.Author.Tests.{lt-ltb, le-ltb, le-leb, lt-leb, eq-eqb, ne_eqb}
 use lib.Dec.{ltb, eqb}
+use Rattle.std.specs.Prelude.{Option, Some, None}
 use Rattle.laws.proofs.Cases.{split, by_lt, by_le, by_eq}
 use Rattle.machine.specs.declared.ZXMachine.{ZXMachine}
 use Rattle.machine.specs.declared.ZXMachine.TheVariants.{Sinclair48K}
@@ -15,10 +16,8 @@ use Rattle.machine.specs.declared.ZXSpecs.{ZXSpecs}
 use Rattle.machine.specs.Numbers.{specs_of}
 use Rattle.machine.specs.Pages.{Page, page_of, laps}
 use Rattle.machine.proofs.Agree.{Same, same as same_numbers}
-use Rattle.ports.specs.declared.FloatingPlace.{FloatingPlace}
-use Rattle.ports.specs.declared.FloatingPlace.TheVariants.{Idle, Bitmap, Attribute}
-use Rattle.ports.specs.declared.FloatingAddress.{FloatingAddress}
-use Rattle.ports.specs.declared.FloatingAddress.TheVariants as address
+use Rattle.ports.specs.declared.Fetched.{Fetched}
+use Rattle.ports.specs.declared.Fetched.TheVariants.{Bitmap, Attribute}
 use Rattle.ports.specs.Floating.{column_at, floating_in, floating_place, floating_address}
 use Rattle.offsets.proofs.Agree.{agree_bitmap, agree_attribute}
 use Rattle.ports.specs.Pages.{Fetch, idle, bitmap_byte, attribute_byte, groups, fetches, first_fetch, page_floating, bitmap_in, bitmap_at, attribute_at, byte_of, seen_in, page_seen}
@@ -26,10 +25,10 @@ use Rattle.ports.specs.Terms.{as_place, seen_at, document_seen, page_at4000}
 
 -- ---- bounds
 -- a place that is not idle is one of 192 lines and 32 columns
-abbrev pub Within : FloatingPlace → Type 0
-Within Idle = Unit {0}
-Within (Bitmap row column) = (row < 192) × (column < 32)
-Within (Attribute row column) = (row < 192) × (column < 32)
+abbrev pub Within : Option Fetched → Type 0
+Within None = Unit {0}
+Within (Some (Bitmap row column)) = (row < 192) × (column < 32)
+Within (Some (Attribute row column)) = (row < 192) × (column < 32)
 
 in_within : (row r : ℕ) → Within (floating_in row r)
 unfolding floating_in
@@ -45,24 +44,24 @@ place_within s clock =
     by_lt Within clock s.block (λ h. tt) (λ h. in_within ((clock - s.block) / s.line) ((clock - s.block) % s.line))
 
 -- the address of a place: 4000h to 57FFh for a bitmap byte, 5800h to 5AFFh for an attribute
-abbrev pub Picture : FloatingAddress → Type 0
-Picture address.Idle = Unit {0}
-Picture (address.At a) = (0x4000 ≤ a) × (a ≤ 0x5AFF)
+abbrev pub Picture : Option ℕ → Type 0
+Picture None = Unit {0}
+Picture (Some a) = (0x4000 ≤ a) × (a ≤ 0x5AFF)
 
-address_in : (p : FloatingPlace) → Within p → Picture (floating_address p)
-address_in Idle w = tt
-address_in (Bitmap row column) w = (omega arith, omega (arith, w.0, w.1))
-address_in (Attribute row column) w = (omega arith, omega (arith, w.0, w.1))
+address_in : (p : Option Fetched) → Within p → Picture (floating_address p)
+address_in None w = tt
+address_in (Some (Bitmap row column)) w = (omega arith, omega (arith, w.0, w.1))
+address_in (Some (Attribute row column)) w = (omega arith, omega (arith, w.0, w.1))
 
 -- the floating bus never reads outside 4000h to 5AFFh, at any clock, on any machine's numbers
-pub address_bounds : (s : ZXSpecs) (clock a : ℕ) → floating_address (floating_place s clock) ≡ address.At a → (0x4000 ≤ a) × (a ≤ 0x5AFF)
+pub address_bounds : (s : ZXSpecs) (clock a : ℕ) → floating_address (floating_place s clock) ≡ Some a → (0x4000 ≤ a) × (a ≤ 0x5AFF)
 address_bounds s clock a e = subst Picture e (address_in (floating_place s clock) (place_within s clock))
 
 -- ---- one line: sixteen groups of eight T-states are document 01's remainder rule
 -- document 01's byte, with the columns counted from a first one
-from : ℕ → ℕ → ℕ → FloatingPlace
+from : ℕ → ℕ → ℕ → Option Fetched
 from row column x =
-    cond (ltb 3 (x % 8)) Idle (cond (eqb (x % 2) 0) (Bitmap row (column + column_at x)) (Attribute row (column + column_at x)))
+    cond (ltb 3 (x % 8)) None (cond (eqb (x % 2) 0) (Some (Bitmap row (column + column_at x))) (Some (Attribute row (column + column_at x))))
 
 from_next : (row column x : ℕ) → from row (column + 2) x ≡ from row column (8 + x)
 unfolding from
@@ -76,10 +75,10 @@ from_next row column x =
 groups_in : (k row column x : ℕ) → x < 8 * k → as_place (groups k row column x) ≡ from row column x
 unfolding groups from
 groups_in zero row column x h = let z : ⊥ = omega arith in absurd z
-groups_in (suc k) row column zero h = ap (Bitmap row) (omega arith)
-groups_in (suc k) row column (suc zero) h = ap (Attribute row) (omega arith)
-groups_in (suc k) row column (suc (suc zero)) h = ap (Bitmap row) (omega arith)
-groups_in (suc k) row column (suc (suc (suc zero))) h = ap (Attribute row) (omega arith)
+groups_in (suc k) row column zero h = ap (λ (c : ℕ). Some (Bitmap row c)) (omega arith)
+groups_in (suc k) row column (suc zero) h = ap (λ (c : ℕ). Some (Attribute row c)) (omega arith)
+groups_in (suc k) row column (suc (suc zero)) h = ap (λ (c : ℕ). Some (Bitmap row c)) (omega arith)
+groups_in (suc k) row column (suc (suc (suc zero))) h = ap (λ (c : ℕ). Some (Attribute row c)) (omega arith)
 groups_in (suc k) row column (suc (suc (suc (suc zero)))) h = refl
 groups_in (suc k) row column (suc (suc (suc (suc (suc zero))))) h = refl
 groups_in (suc k) row column (suc (suc (suc (suc (suc (suc zero)))))) h = refl
@@ -89,7 +88,7 @@ groups_in (suc k) row column (suc (suc (suc (suc (suc (suc (suc (suc x)))))))) h
     groups_in k row (column + 2) x (omega arith) ∙ (from_next row column x ∙ ap (from row column) e)
 
 -- and past them
-groups_past : (k row column x : ℕ) → 8 * k ≤ x → as_place (groups k row column x) ≡ Idle
+groups_past : (k row column x : ℕ) → 8 * k ≤ x → as_place (groups k row column x) ≡ None
 unfolding groups
 groups_past zero row column x h = refl
 groups_past (suc k) row column zero h = let z : ⊥ = omega arith in absurd z
@@ -115,13 +114,13 @@ line_is row r h =
     groups_in 16 row 0 r g ∙ rw (lt-leb 192 row h, lt-leb 124 r f, e)))
 
 -- ---- line after line
-late : (row r : ℕ) → 192 ≤ row → floating_in row r ≡ Idle
+late : (row r : ℕ) → 192 ≤ row → floating_in row r ≡ None
 unfolding floating_in
 late row r h = rw (le-leb 192 row h)
 
 -- document 01's place, with the lines counted from a first one
-document : ℕ → ℕ → ℕ → ℕ → FloatingPlace
-document row start line t = cond (ltb t start) Idle (floating_in (row + (t - start) / line) ((t - start) % line))
+document : ℕ → ℕ → ℕ → ℕ → Option Fetched
+document row start line t = cond (ltb t start) None (floating_in (row + (t - start) / line) ((t - start) % line))
 
 fetches_is : (k row start line t : ℕ) → row + k ≡ 192 → 0 < line → as_place (fetches k row start line t) ≡ document row start line t
 unfolding fetches document
@@ -150,7 +149,7 @@ pub agree_floating : (p : Page) (s : ZXSpecs) → Same p s → (t : ℕ) → as_
 unfolding document floating_place
 agree_floating p s e t =
     rw (e.line, e.block)
-    (fetches_is 192 0 s.block s.line t refl (omega (arith, e.wide)) ∙ ap (λ (q : ℕ). cond (ltb t s.block) Idle (floating_in q ((t - s.block) % s.line))) (omega arith))
+    (fetches_is 192 0 s.block s.line t refl (omega (arith, e.wide)) ∙ ap (λ (q : ℕ). cond (ltb t s.block) None (floating_in q ((t - s.block) % s.line))) (omega arith))
 
 -- ---- at which T-state a byte is fetched
 laps_is : (k n : ℕ) → laps k n ≡ k * n
@@ -172,19 +171,19 @@ bitmap_in_lem start (suc (suc column)) = omega (arith, bitmap_in_lem (start + 8)
 pub bitmap_sum : (p : Page) (row column : ℕ) → bitmap_at p row column ≡ first_fetch p + row * p.per_line + (8 * (column / 2) + 2 * (column % 2))
 bitmap_sum p row column = omega (arith, bitmap_in_lem (first_fetch p + laps row p.per_line) column, laps_is row p.per_line)
 
-in_bitmap : (row column : ℕ) → row < 192 → column < 32 → floating_in row (into_line column) ≡ Bitmap row column
+in_bitmap : (row column : ℕ) → row < 192 → column < 32 → floating_in row (into_line column) ≡ Some (Bitmap row column)
 unfolding floating_in
 in_bitmap row column h g =
     let x = into_line column in
     let e : column_at x ≡ column = omega arith in
-    rw (lt-leb 192 row h, lt-leb 124 x (omega arith), le-ltb 3 (x % 8) (omega arith), eq-eqb (x % 2) 0 (omega arith)) (ap (Bitmap row) e)
+    rw (lt-leb 192 row h, lt-leb 124 x (omega arith), le-ltb 3 (x % 8) (omega arith), eq-eqb (x % 2) 0 (omega arith)) (ap (λ (c : ℕ). Some (Bitmap row c)) e)
 
-in_attribute : (row column : ℕ) → row < 192 → column < 32 → floating_in row (into_line column + 1) ≡ Attribute row column
+in_attribute : (row column : ℕ) → row < 192 → column < 32 → floating_in row (into_line column + 1) ≡ Some (Attribute row column)
 unfolding floating_in
 in_attribute row column h g =
     let x = into_line column + 1 in
     let e : column_at x ≡ column = omega arith in
-    rw (lt-leb 192 row h, lt-leb 124 x (omega arith), le-ltb 3 (x % 8) (omega arith), ne_eqb (x % 2) 0 (λ (z : x % 2 ≡ 0). omega arith)) (ap (Attribute row) e)
+    rw (lt-leb 192 row h, lt-leb 124 x (omega arith), le-ltb 3 (x % 8) (omega arith), ne_eqb (x % 2) 0 (λ (z : x % 2 ≡ 0). omega arith)) (ap (λ (c : ℕ). Some (Attribute row c)) e)
 
 document_at : (start line row x t : ℕ) → x < line → t ≡ start + row * line + x → document 0 start line t ≡ floating_in row x
 unfolding document
@@ -197,19 +196,19 @@ document_at start line row x t h e =
     rw (le-ltb t start (omega arith), d, q, r)
 
 -- an idle T-state fetches no byte, and one that fetches a byte of the bitmap fetches no attribute
-abbrev kind_of : FloatingPlace → ℕ
-kind_of Idle = 0
-kind_of (Bitmap row column) = 1
-kind_of (Attribute row column) = 2
+abbrev kind_of : Option Fetched → ℕ
+kind_of None = 0
+kind_of (Some (Bitmap row column)) = 1
+kind_of (Some (Attribute row column)) = 2
 
-clash : {A : Type 0} {x y : FloatingPlace} → x ≡ y → (kind_of x ≡ kind_of y → ⊥) → A
+clash : {A : Type 0} {x y : Option Fetched} → x ≡ y → (kind_of x ≡ kind_of y → ⊥) → A
 clash e n = absurd (n (ap kind_of e))
 
 -- a byte is fetched in one line, and there at one T-state
-in_bitmap_only : (q r row column : ℕ) → floating_in q r ≡ Bitmap row column → (q ≡ row) × (r ≡ into_line column)
+in_bitmap_only : (q r row column : ℕ) → floating_in q r ≡ Some (Bitmap row column) → (q ≡ row) × (r ≡ into_line column)
 unfolding floating_in
 in_bitmap_only q r row column =
-    let P : FloatingPlace → Type 0 = λ x. x ≡ Bitmap row column → (q ≡ row) × (r ≡ into_line column) in
+    let P : Option Fetched → Type 0 = λ x. x ≡ Some (Bitmap row column) → (q ≡ row) × (r ≡ into_line column) in
     by_le P 192 q (λ h e. clash e (λ z. omega arith))
     (λ h. by_le P 124 r (λ g e. clash e (λ z. omega arith))
     (λ g. by_lt P 3 (r % 8) (λ f e. clash e (λ z. omega arith))
@@ -217,10 +216,10 @@ in_bitmap_only q r row column =
     (λ o e. let a : q ≡ row = cc in let b : column_at r ≡ column = cc in (a, omega arith))
     (λ o e. clash e (λ z. omega arith)))))
 
-in_attribute_only : (q r row column : ℕ) → floating_in q r ≡ Attribute row column → (q ≡ row) × (r ≡ into_line column + 1)
+in_attribute_only : (q r row column : ℕ) → floating_in q r ≡ Some (Attribute row column) → (q ≡ row) × (r ≡ into_line column + 1)
 unfolding floating_in
 in_attribute_only q r row column =
-    let P : FloatingPlace → Type 0 = λ x. x ≡ Attribute row column → (q ≡ row) × (r ≡ into_line column + 1) in
+    let P : Option Fetched → Type 0 = λ x. x ≡ Some (Attribute row column) → (q ≡ row) × (r ≡ into_line column + 1) in
     by_le P 192 q (λ h e. clash e (λ z. omega arith))
     (λ h. by_le P 124 r (λ g e. clash e (λ z. omega arith))
     (λ g. by_lt P 3 (r % 8) (λ f e. clash e (λ z. omega arith))
@@ -234,27 +233,27 @@ rejoined start line row x t h e =
     let d : row * line + x ≡ t - start = ap₂ (λ (y z : ℕ). y * line + z) (sym e.0) (sym e.1) ∙ div-add-mod' (t - start) line in
     omega arith
 
-document_bitmap : (start line t row column : ℕ) → document 0 start line t ≡ Bitmap row column → t ≡ start + row * line + into_line column
+document_bitmap : (start line t row column : ℕ) → document 0 start line t ≡ Some (Bitmap row column) → t ≡ start + row * line + into_line column
 unfolding document
 document_bitmap start line t row column =
-    by_lt (λ (x : FloatingPlace). x ≡ Bitmap row column → t ≡ start + row * line + into_line column) t start
+    by_lt (λ (x : Option Fetched). x ≡ Some (Bitmap row column) → t ≡ start + row * line + into_line column) t start
     (λ h e. clash e (λ z. omega arith))
     (λ h e. let i = in_bitmap_only (0 + (t - start) / line) ((t - start) % line) row column e in rejoined start line row (into_line column) t h (omega (arith, i.0), i.1))
 
-document_attribute : (start line t row column : ℕ) → document 0 start line t ≡ Attribute row column → t ≡ start + row * line + (into_line column + 1)
+document_attribute : (start line t row column : ℕ) → document 0 start line t ≡ Some (Attribute row column) → t ≡ start + row * line + (into_line column + 1)
 unfolding document
 document_attribute start line t row column =
-    by_lt (λ (x : FloatingPlace). x ≡ Attribute row column → t ≡ start + row * line + (into_line column + 1)) t start
+    by_lt (λ (x : Option Fetched). x ≡ Some (Attribute row column) → t ≡ start + row * line + (into_line column + 1)) t start
     (λ h e. clash e (λ z. omega arith))
     (λ h e. let i = in_attribute_only (0 + (t - start) / line) ((t - start) % line) row column e in rejoined start line row (into_line column + 1) t h (omega (arith, i.0), i.1))
 
 -- what is not idle in document 01's terms is the same byte in the pages'
-bitmap_back : (f : Fetch) (row column : ℕ) → as_place f ≡ Bitmap row column → f ≡ bitmap_byte row column
+bitmap_back : (f : Fetch) (row column : ℕ) → as_place f ≡ Some (Bitmap row column) → f ≡ bitmap_byte row column
 bitmap_back idle row column e = clash e (λ z. omega arith)
 bitmap_back (attribute_byte r c) row column e = clash e (λ z. omega arith)
 bitmap_back (bitmap_byte r c) row column e = let a : r ≡ row = cc in let b : c ≡ column = cc in ap₂ bitmap_byte a b
 
-attribute_back : (f : Fetch) (row column : ℕ) → as_place f ≡ Attribute row column → f ≡ attribute_byte row column
+attribute_back : (f : Fetch) (row column : ℕ) → as_place f ≡ Some (Attribute row column) → f ≡ attribute_byte row column
 attribute_back idle row column e = clash e (λ z. omega arith)
 attribute_back (bitmap_byte r c) row column e = clash e (λ z. omega arith)
 attribute_back (attribute_byte r c) row column e = let a : r ≡ row = cc in let b : c ≡ column = cc in ap₂ attribute_byte a b
@@ -300,18 +299,18 @@ seen_by : (m : ZXMachine) (shown t : ℕ) → page_seen m shown t ≡ seen_at sh
 seen_by m shown t =
     let e : as_place (page_floating (page_of m) t) ≡ floating_place (specs_of m) t = agree_floating (page_of m) (specs_of m) (same_numbers m) t in
     seen_same shown (page_floating (page_of m) t) (subst Within (sym e) (place_within (specs_of m) t))
-    ∙ ap (λ (x : FloatingPlace). seen_at shown (floating_address x)) e
+    ∙ ap (λ (x : Option Fetched). seen_at shown (floating_address x)) e
 
 -- the floating bus shows the pages' byte whenever the shown page is the one at 4000h: always on 48K, page 5 on 128K
 pub seen_agree : (m : ZXMachine) (t : ℕ) → page_seen m (page_at4000 m) t ≡ document_seen m t
 seen_agree m t = seen_by m (page_at4000 m) t
 
 -- when another page is shown they agree at the idle clocks
-pub seen_idle : (m : ZXMachine) (shown t : ℕ) → floating_address (floating_place (specs_of m) t) ≡ address.Idle → page_seen m shown t ≡ document_seen m t
+pub seen_idle : (m : ZXMachine) (shown t : ℕ) → floating_address (floating_place (specs_of m) t) ≡ None → page_seen m shown t ≡ document_seen m t
 seen_idle m shown t e = seen_by m shown t ∙ (ap (seen_at shown) e ∙ sym (ap (seen_at (page_at4000 m)) e))
 
 -- and part at every other clock
-pub seen_part : (m : ZXMachine) (shown t a : ℕ) → (shown ≡ page_at4000 m → ⊥) → floating_address (floating_place (specs_of m) t) ≡ address.At a
+pub seen_part : (m : ZXMachine) (shown t a : ℕ) → (shown ≡ page_at4000 m → ⊥) → floating_address (floating_place (specs_of m) t) ≡ Some a
     → page_seen m shown t ≡ document_seen m t → ⊥
 seen_part m shown t a n e h =
     let p : byte_of shown (a - 0x4000) ≡ byte_of (page_at4000 m) (a - 0x4000) =

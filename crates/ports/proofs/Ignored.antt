@@ -11,17 +11,11 @@ use lib.ListN.{length, take, get_or, length-take}
 use lib.Seq.{ext_get_or, get_or-take}
 use Rattle.laws.proofs.Cases.{split, and_left, and_right}
 use Rattle.machine.specs.declared.ZXMachine.{ZXMachine}
-use Rattle.ports.specs.declared.Extender.{Extender}
-use Rattle.ports.specs.declared.Extender.TheVariants as extender
-use Rattle.ports.specs.declared.Ay.{Ay}
-use Rattle.ports.specs.declared.Ay.TheVariants as ay
-use Rattle.ports.specs.declared.Joystick.{Joystick}
-use Rattle.ports.specs.declared.Joystick.TheVariants as joystick
+use Rattle.ports.specs.declared.Device.{Device}
+use Rattle.ports.specs.declared.Device.TheVariants.{Absent, Present}
 use Rattle.ports.specs.declared.MousePorts.{MousePorts}
-use Rattle.ports.specs.declared.Mouse.{Mouse}
-use Rattle.ports.specs.declared.Mouse.TheVariants as mouse
 use Rattle.ports.specs.declared.Devices.{Devices}
-use Rattle.ports.specs.Devices.{device_byte, mouse_of, rows_of, devices_of, flags_of, ignored}
+use Rattle.ports.specs.Devices.{device_byte, device_of, rows_of, devices_of, flags_of, ignored}
 use Rattle.ports.specs.Order.{read_order}
 use Rattle.ports.specs.Hearers.{hearers}
 
@@ -30,9 +24,9 @@ early : (s : List ℕ) (k : ℕ) → k < 26 → ignored s k ≡ false
 unfolding ignored
 early s k h = rw (ne_eqb k 26 (λ (e : k ≡ 26). omega arith), ne_eqb k 28 (λ (e : k ≡ 28). omega arith), ne_eqb k 30 (λ (e : k ≡ 30). omega arith), lt-leb 32 k (omega arith))
 
--- the mouse's three bytes, if it is there
-abbrev mouse_if : Bool → List ℕ → Mouse
-mouse_if absent s = cond absent mouse.Absent (mouse.Present (record { buttons = device_byte s 32; x = device_byte s 33; y = device_byte s 34 }))
+-- the mouse's three bytes
+abbrev ports : List ℕ → MousePorts
+ports s = record { buttons = device_byte s 32; x = device_byte s 33; y = device_byte s 34 }
 
 module _ (s t : List ℕ) (ls : length s ≡ 35) (lt : length t ≡ 35) (h : (k : ℕ) → ignored s k ≡ false → device_byte s k ≡ device_byte t k) where
   rows_same : rows_of s ≡ rows_of t
@@ -42,20 +36,13 @@ module _ (s t : List ℕ) (ls : length s ≡ 35) (lt : length t ≡ 35) (h : (k 
       ext_get_or 0 (take 24 s) (take 24 t) (a ∙ sym b)
       (λ i l. let g : i < 24 = omega arith in get_or-take 24 s i 0 g ∙ (h i (early s i (omega arith)) ∙ sym (get_or-take 24 t i 0 g)))
 
-  -- a device of one byte, at any place
-  one : {A : Type 0} (absent : A) (present : ℕ → A) (f b : ℕ) → device_byte s f ≡ device_byte t f → (eqb (device_byte s f) 0 ≡ false → device_byte s b ≡ device_byte t b)
-      → cond (eqb (device_byte s f) 0) absent (present (device_byte s b)) ≡ cond (eqb (device_byte t f) 0) absent (present (device_byte t b))
-  one absent present f b e g = rw (← e) (by_flag (eqb (device_byte s f) 0) g) where
-    by_flag : (z : Bool) → (z ≡ false → device_byte s b ≡ device_byte t b) → cond z absent (present (device_byte s b)) ≡ cond z absent (present (device_byte t b))
+  -- a device with bytes of any type, its flag at any place
+  one : {B : Type 0} (f : ℕ) (b c : B) → device_byte s f ≡ device_byte t f → (eqb (device_byte s f) 0 ≡ false → b ≡ c)
+      → device_of (device_byte s f) b ≡ device_of (device_byte t f) c
+  one {B} f b c e g = rw (← e) (by_flag (eqb (device_byte s f) 0) g) where
+    by_flag : (z : Bool) → (z ≡ false → b ≡ c) → cond z Absent (Present b) ≡ cond z Absent (Present c)
     by_flag true k = refl
-    by_flag false k = ap present (k refl)
-
-  three : device_byte s 31 ≡ device_byte t 31 → (eqb (device_byte s 31) 0 ≡ false → (device_byte s 32 ≡ device_byte t 32) × (device_byte s 33 ≡ device_byte t 33) × (device_byte s 34 ≡ device_byte t 34))
-      → mouse_of (device_byte s 31) (device_byte s 32) (device_byte s 33) (device_byte s 34) ≡ mouse_of (device_byte t 31) (device_byte t 32) (device_byte t 33) (device_byte t 34)
-  three e g = rw (← e) (by_flag (eqb (device_byte s 31) 0) g) where
-    by_flag : (z : Bool) → (z ≡ false → (device_byte s 32 ≡ device_byte t 32) × (device_byte s 33 ≡ device_byte t 33) × (device_byte s 34 ≡ device_byte t 34)) → mouse_if z s ≡ mouse_if z t
-    by_flag true k = refl
-    by_flag false k = rw ((k refl).0, (k refl).1, (k refl).2)
+    by_flag false k = ap Present (k refl)
 
   -- the bytes of an absent device do not matter: records that differ in such bytes alone are read as the same devices
   pub absent_ignored : devices_of s ≡ devices_of t
@@ -64,10 +51,10 @@ module _ (s t : List ℕ) (ls : length s ≡ 35) (lt : length t ≡ 35) (h : (k 
       rw (
         rows_same,
         h 24 refl,
-        one extender.Absent extender.Present 25 26 (h 25 refl) (λ e. h 26 (rw e)),
-        one ay.Absent ay.Present 27 28 (h 27 refl) (λ e. h 28 (rw e)),
-        one joystick.Absent joystick.Present 29 30 (h 29 refl) (λ e. h 30 (rw e)),
-        three (h 31 refl) (λ e. (h 32 e, h 33 e, h 34 e)),
+        one 25 _ _ (h 25 refl) (λ e. h 26 (rw e)),
+        one 27 _ _ (h 27 refl) (λ e. h 28 (rw e)),
+        one 29 _ _ (h 29 refl) (λ e. h 30 (rw e)),
+        one 31 (ports s) (ports t) (h 31 refl) (λ e. rw (h 32 e, h 33 e, h 34 e)),
       )
 
   -- they are judged alike, and every port reads and hears alike
@@ -85,40 +72,15 @@ module _ (s t : List ℕ) (ls : length s ≡ 35) (lt : length t ≡ 35) (h : (k 
 never : {A : Type 0} → true ≡ false → A
 never e = let z : ◌≡◌ {A = ℕ} 0 1 = cc in let y : ⊥ = omega arith in absurd y
 
--- a device of one byte gives back its flag, and its byte if it is there, by any numbering that tells its values apart
-module _ {A : Type 0} (absent : A) (present : ℕ → A) (number : A → ℕ) (n₀ : number absent ≡ 0) (n₁ : (b : ℕ) → number (present b) ≡ suc b) where
-  back : (f g b c : ℕ) → f < 2 → g < 2 → cond (eqb f 0) absent (present b) ≡ cond (eqb g 0) absent (present c) → (f ≡ g) × (eqb f 0 ≡ false → b ≡ c)
-  back zero zero b c hf hg e = (refl, λ z. never z)
-  back zero (suc zero) b c hf hg e = let z : ◌≡◌ {A = ℕ} 0 (suc c) = sym n₀ ∙ (ap number e ∙ n₁ c) in let y : ⊥ = omega arith in absurd y
-  back (suc zero) zero b c hf hg e = let z : ◌≡◌ {A = ℕ} (suc b) 0 = sym (n₁ b) ∙ (ap number e ∙ n₀) in let y : ⊥ = omega arith in absurd y
-  back (suc zero) (suc zero) b c hf hg e = (refl, λ z. let y : suc b ≡ suc c = sym (n₁ b) ∙ (ap number e ∙ n₁ c) in omega arith)
-  back (suc (suc f)) g b c hf hg e = let y : ⊥ = omega arith in absurd y
-  back zero (suc (suc g)) b c hf hg e = let y : ⊥ = omega arith in absurd y
-  back (suc zero) (suc (suc g)) b c hf hg e = let y : ⊥ = omega arith in absurd y
-
-abbrev extender_number : Extender → ℕ
-extender_number extender.Absent = 0
-extender_number (extender.Present b) = suc b
-
-abbrev ay_number : Ay → ℕ
-ay_number ay.Absent = 0
-ay_number (ay.Present b) = suc b
-
-abbrev joystick_number : Joystick → ℕ
-joystick_number joystick.Absent = 0
-joystick_number (joystick.Present b) = suc b
-
-mouse_back : (f g a b c a' b' c' : ℕ) → f < 2 → g < 2 → mouse_of f a b c ≡ mouse_of g a' b' c'
-    → (f ≡ g) × (eqb f 0 ≡ false → (a ≡ a') × (b ≡ b') × (c ≡ c'))
-mouse_back zero zero a b c a' b' c' hf hg e = (refl, λ z. never z)
-mouse_back zero (suc zero) a b c a' b' c' hf hg e = let z : ◌≡◌ {A = ℕ} 0 1 = cc in let y : ⊥ = omega arith in absurd y
-mouse_back (suc zero) zero a b c a' b' c' hf hg e = let z : ◌≡◌ {A = ℕ} 0 1 = cc in let y : ⊥ = omega arith in absurd y
-mouse_back (suc zero) (suc zero) a b c a' b' c' hf hg e =
-    let p : ◌≡◌ {A = MousePorts} (record { buttons = a; x = b; y = c }) (record { buttons = a'; x = b'; y = c' }) = cc in
-    (refl, λ z. (ap (λ (m : MousePorts). m.buttons) p, ap (λ (m : MousePorts). m.x) p, ap (λ (m : MousePorts). m.y) p))
-mouse_back (suc (suc f)) g a b c a' b' c' hf hg e = let y : ⊥ = omega arith in absurd y
-mouse_back zero (suc (suc g)) a b c a' b' c' hf hg e = let y : ⊥ = omega arith in absurd y
-mouse_back (suc zero) (suc (suc g)) a b c a' b' c' hf hg e = let y : ⊥ = omega arith in absurd y
+-- a device gives back its flag, and its bytes if it is there
+back : {B : Type 0} (f g : ℕ) (b c : B) → f < 2 → g < 2 → device_of f b ≡ device_of g c → (f ≡ g) × (eqb f 0 ≡ false → b ≡ c)
+back zero zero b c hf hg e = (refl, λ z. never z)
+back zero (suc zero) b c hf hg e = let z : ◌≡◌ {A = ℕ} 0 1 = cc in let y : ⊥ = omega arith in absurd y
+back (suc zero) zero b c hf hg e = let z : ◌≡◌ {A = ℕ} 0 1 = cc in let y : ⊥ = omega arith in absurd y
+back (suc zero) (suc zero) b c hf hg e = (refl, λ z. cc)
+back (suc (suc f)) g b c hf hg e = let y : ⊥ = omega arith in absurd y
+back zero (suc (suc g)) b c hf hg e = let y : ⊥ = omega arith in absurd y
+back (suc zero) (suc (suc g)) b c hf hg e = let y : ⊥ = omega arith in absurd y
 
 or_left : (a b : Bool) → (a || b) ≡ false → a ≡ false
 or_left true b e = e
@@ -156,27 +118,25 @@ module _ (s t : List ℕ) (fs : flags_of s ≡ true) (ft : flags_of t ≡ true) 
   extender_kept : (device_byte s 25 ≡ device_byte t 25) × (eqb (device_byte s 25) 0 ≡ false → device_byte s 26 ≡ device_byte t 26)
   unfolding devices_of
   extender_kept =
-      back extender.Absent extender.Present extender_number refl (λ b. refl) (device_byte s 25) (device_byte t 25) (device_byte s 26) (device_byte t 26)
+      back (device_byte s 25) (device_byte t 25) (device_byte s 26) (device_byte t 26)
       (judged s fs).extender_flag (judged t ft).extender_flag (ap (λ (d : Devices). d.extender) e)
 
   ay_kept : (device_byte s 27 ≡ device_byte t 27) × (eqb (device_byte s 27) 0 ≡ false → device_byte s 28 ≡ device_byte t 28)
   unfolding devices_of
   ay_kept =
-      back ay.Absent ay.Present ay_number refl (λ b. refl) (device_byte s 27) (device_byte t 27) (device_byte s 28) (device_byte t 28)
+      back (device_byte s 27) (device_byte t 27) (device_byte s 28) (device_byte t 28)
       (judged s fs).ay_flag (judged t ft).ay_flag (ap (λ (d : Devices). d.ay) e)
 
   joystick_kept : (device_byte s 29 ≡ device_byte t 29) × (eqb (device_byte s 29) 0 ≡ false → device_byte s 30 ≡ device_byte t 30)
   unfolding devices_of
   joystick_kept =
-      back joystick.Absent joystick.Present joystick_number refl (λ b. refl) (device_byte s 29) (device_byte t 29) (device_byte s 30) (device_byte t 30)
+      back (device_byte s 29) (device_byte t 29) (device_byte s 30) (device_byte t 30)
       (judged s fs).joystick_flag (judged t ft).joystick_flag (ap (λ (d : Devices). d.joystick) e)
 
-  mouse_kept : (device_byte s 31 ≡ device_byte t 31)
-      × (eqb (device_byte s 31) 0 ≡ false → (device_byte s 32 ≡ device_byte t 32) × (device_byte s 33 ≡ device_byte t 33) × (device_byte s 34 ≡ device_byte t 34))
+  mouse_kept : (device_byte s 31 ≡ device_byte t 31) × (eqb (device_byte s 31) 0 ≡ false → ports s ≡ ports t)
   unfolding devices_of
   mouse_kept =
-      mouse_back (device_byte s 31) (device_byte t 31) (device_byte s 32) (device_byte s 33) (device_byte s 34) (device_byte t 32) (device_byte t 33) (device_byte t 34)
-      (judged s fs).mouse_flag (judged t ft).mouse_flag (ap (λ (d : Devices). d.mouse) e)
+      back (device_byte s 31) (device_byte t 31) (ports s) (ports t) (judged s fs).mouse_flag (judged t ft).mouse_flag (ap (λ (d : Devices). d.mouse) e)
 
   late_kept : (j : ℕ) → j < 11 → ignored s (24 + j) ≡ false → device_byte s (24 + j) ≡ device_byte t (24 + j)
   unfolding ignored devices_of
@@ -188,9 +148,9 @@ module _ (s t : List ℕ) (fs : flags_of s ≡ true) (ft : flags_of t ≡ true) 
   late_kept (suc (suc (suc (suc (suc zero))))) h i = joystick_kept.0
   late_kept (suc (suc (suc (suc (suc (suc zero)))))) h i = joystick_kept.1 (or_left _ false i)
   late_kept (suc (suc (suc (suc (suc (suc (suc zero))))))) h i = mouse_kept.0
-  late_kept (suc (suc (suc (suc (suc (suc (suc (suc zero)))))))) h i = (mouse_kept.1 i).0
-  late_kept (suc (suc (suc (suc (suc (suc (suc (suc (suc zero))))))))) h i = (mouse_kept.1 i).1
-  late_kept (suc (suc (suc (suc (suc (suc (suc (suc (suc (suc zero)))))))))) h i = (mouse_kept.1 i).2
+  late_kept (suc (suc (suc (suc (suc (suc (suc (suc zero)))))))) h i = ap (λ (p : MousePorts). p.buttons) (mouse_kept.1 i)
+  late_kept (suc (suc (suc (suc (suc (suc (suc (suc (suc zero))))))))) h i = ap (λ (p : MousePorts). p.x) (mouse_kept.1 i)
+  late_kept (suc (suc (suc (suc (suc (suc (suc (suc (suc (suc zero)))))))))) h i = ap (λ (p : MousePorts). p.y) (mouse_kept.1 i)
   late_kept (suc (suc (suc (suc (suc (suc (suc (suc (suc (suc (suc j))))))))))) h i = let y : ⊥ = omega arith in absurd y
 
   pub nothing_lost : (k : ℕ) → k < 35 → ignored s k ≡ false → device_byte s k ≡ device_byte t k

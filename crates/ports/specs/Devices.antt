@@ -1,14 +1,8 @@
 -- Document 01, "Lent memory", third paragraph: the 35 bytes of the device record, and the record that they stand for.
 -- Assumes nothing.
 use Rattle.std.specs.Prelude.{ℕ, List, Bool, cond, ◌&&◌, ◌||◌, get_or, take, eqb, ltb, leb}
-use Rattle.ports.specs.declared.Extender.{Extender}
-use Rattle.ports.specs.declared.Extender.TheVariants as extender
-use Rattle.ports.specs.declared.Ay.{Ay}
-use Rattle.ports.specs.declared.Ay.TheVariants as ay
-use Rattle.ports.specs.declared.Joystick.{Joystick}
-use Rattle.ports.specs.declared.Joystick.TheVariants as joystick
-use Rattle.ports.specs.declared.Mouse.{Mouse}
-use Rattle.ports.specs.declared.Mouse.TheVariants as mouse
+use Rattle.ports.specs.declared.Device.{Device}
+use Rattle.ports.specs.declared.Device.TheVariants.{Absent, Present}
 use Rattle.ports.specs.declared.Devices.{Devices}
 
 -- "35 bytes"
@@ -20,17 +14,8 @@ abbrev pub device_byte : List ℕ → ℕ → ℕ
 device_byte s k = get_or s k 0
 
 -- "each device is either absent or present with its own bytes": a flag of 0 is an absent device, whose bytes go nowhere
-abbrev pub extender_of : ℕ → ℕ → Extender
-extender_of flag byte = cond (eqb flag 0) extender.Absent (extender.Present byte)
-
-abbrev pub ay_of : ℕ → ℕ → Ay
-ay_of flag byte = cond (eqb flag 0) ay.Absent (ay.Present byte)
-
-abbrev pub joystick_of : ℕ → ℕ → Joystick
-joystick_of flag byte = cond (eqb flag 0) joystick.Absent (joystick.Present byte)
-
-abbrev pub mouse_of : ℕ → ℕ → ℕ → ℕ → Mouse
-mouse_of flag buttons x y = cond (eqb flag 0) mouse.Absent (mouse.Present (record { buttons = buttons; x = x; y = y }))
+abbrev pub device_of : {B : Type 0} → ℕ → B → Device B
+device_of flag bytes = cond (eqb flag 0) Absent (Present bytes)
 
 -- "three sets of eight key rows": row n of set k is byte 8 k + n
 abbrev pub rows_of : List ℕ → List ℕ
@@ -42,10 +27,10 @@ devices_of s =
     record {
       rows = rows_of s;
       tape = device_byte s 24;
-      extender = extender_of (device_byte s 25) (device_byte s 26);
-      ay = ay_of (device_byte s 27) (device_byte s 28);
-      joystick = joystick_of (device_byte s 29) (device_byte s 30);
-      mouse = mouse_of (device_byte s 31) (device_byte s 32) (device_byte s 33) (device_byte s 34);
+      extender = device_of (device_byte s 25) (device_byte s 26);
+      ay = device_of (device_byte s 27) (device_byte s 28);
+      joystick = device_of (device_byte s 29) (device_byte s 30);
+      mouse = device_of (device_byte s 31) (record { buttons = device_byte s 32; x = device_byte s 33; y = device_byte s 34 });
     }
 
 -- "Flags and tape bit are 0 or 1." Where this is false the call gets refusal 4, "a device flag or the tape bit is above 1".

@@ -1,20 +1,16 @@
 -- Document 01's answers in the terms of the public pages (specs/Pages), so that the two can be held side by side, and where they part.
 -- Assumes nothing.
-use Rattle.std.specs.Prelude.{ℕ, ◌+◌, ◌-◌, ◌*◌, ◌%◌, ◌≤◌, ◌<◌, ◌≡◌, Bool, true, false, cond, not, ◌&&◌, ◌||◌, List, [], ◌∷◌, leb, get_or}
+use Rattle.std.specs.Prelude.{ℕ, ◌+◌, ◌-◌, ◌*◌, ◌%◌, ◌≤◌, ◌<◌, ◌≡◌, Bool, true, false, cond, not, ◌&&◌, ◌||◌, List, [], ◌∷◌, leb, get_or, Option, Some, None}
 use Rattle.machine.specs.declared.ZXMachine.{ZXMachine}
 use Rattle.machine.specs.declared.ZXMachine.TheVariants.{Sinclair48K, Sinclair128K}
 use Rattle.machine.specs.declared.ZXSpecs.{ZXSpecs}
 use Rattle.machine.specs.Numbers.{specs_of}
 use Rattle.machine.specs.Timing.{first_column, block_position}
 use Rattle.machine.specs.Pages.{Page}
-use Rattle.ports.specs.declared.Ay.{Ay}
-use Rattle.ports.specs.declared.Ay.TheVariants as ay
-use Rattle.ports.specs.declared.Answer.{Answer}
-use Rattle.ports.specs.declared.Answer.TheVariants.{Value, Floating}
-use Rattle.ports.specs.declared.FloatingPlace.{FloatingPlace}
-use Rattle.ports.specs.declared.FloatingPlace.TheVariants.{Idle, Bitmap, Attribute}
-use Rattle.ports.specs.declared.FloatingAddress.{FloatingAddress}
-use Rattle.ports.specs.declared.FloatingAddress.TheVariants as address
+use Rattle.ports.specs.declared.Device.{Device}
+use Rattle.ports.specs.declared.Device.TheVariants.{Absent, Present}
+use Rattle.ports.specs.declared.Fetched.{Fetched}
+use Rattle.ports.specs.declared.Fetched.TheVariants.{Bitmap, Attribute}
 use Rattle.ports.specs.Order.{ay_byte}
 use Rattle.ports.specs.Hearers.{Hearer, extender, ay_select, ay_write, border, paging}
 use Rattle.ports.specs.Floating.{floating_place, floating_address}
@@ -40,31 +36,31 @@ write_parts m fitted port =
     not (is_set 1 port) && cond (is_set 15 port) (not (is_set 0 port) || not fitted) (not (is_set 0 port) && has_paging m)
 
 -- ---- reads
-abbrev pub is_fitted : Ay → Bool
-is_fitted ay.Absent = false
-is_fitted (ay.Present byte) = true
+abbrev pub is_fitted : Device ℕ → Bool
+is_fitted Absent = false
+is_fitted (Present byte) = true
 
 -- what is read where the pages' device answers: the keys' byte, the AY's, or the floating bus
-abbrev pub as_answer : Ay → ℕ → Answerer → Answer
-as_answer a keys ula = Value keys
+abbrev pub as_answer : Device ℕ → ℕ → Answerer → Option ℕ
+as_answer a keys ula = Some keys
 as_answer a keys register = ay_byte a
-as_answer a keys nobody = Floating
+as_answer a keys nobody = None
 
 -- ---- the floating bus
 -- the pages' fetch as document 01's place
-abbrev pub as_place : Fetch → FloatingPlace
-as_place idle = Idle
-as_place (bitmap_byte row column) = Bitmap row column
-as_place (attribute_byte row column) = Attribute row column
+abbrev pub as_place : Fetch → Option Fetched
+as_place idle = None
+as_place (bitmap_byte row column) = Some (Bitmap row column)
+as_place (attribute_byte row column) = Some (Attribute row column)
 
 -- the RAM page at 4000h, which is block 1: "48K blocks 1 to 3 are RAM 0, 1, 2. On 128K they are RAM 5, 2 and .."
 abbrev pub page_at4000 : ZXMachine → ℕ
 page_at4000 Sinclair48K = 0
 page_at4000 Sinclair128K = 5
 
-abbrev pub seen_at : ℕ → FloatingAddress → Seen
-seen_at page address.Idle = nothing
-seen_at page (address.At a) = byte_of page (a - 0x4000)
+abbrev pub seen_at : ℕ → Option ℕ → Seen
+seen_at page None = nothing
+seen_at page (Some a) = byte_of page (a - 0x4000)
 
 -- "the floating bus always reads through 4000h": the shown page has no part in it
 abbrev pub document_seen : ZXMachine → ℕ → Seen

@@ -5,7 +5,7 @@
 
 ghost use Rattle.std.specs.Prelude.{◌≡◌, ◌+◌, ◌<◌, length, cond};
 ghost use Rattle.machine.specs.Numbers.{specs_of};
-ghost use Rattle.ports.specs.Devices.{extender_of, ay_of, joystick_of, mouse_of, rows_of, devices_of, flags_of, devices_length};
+ghost use Rattle.ports.specs.Devices.{device_of, devices_of, flags_of, devices_length};
 ghost use Rattle.ports.specs.Keys.{selected, row_in, keys_read};
 ghost use Rattle.ports.specs.Order.{with_joystick, with_ay, with_mouse, read_order};
 ghost use Rattle.ports.specs.Hearers.{port_hearers, hearers, heard_code, hearers_of};
@@ -17,55 +17,31 @@ use machine::{Numbers, Numbers48K, Numbers128K, ZXMachine};
 // Bytes of the lent device record.
 pub const DEVICES_LENGTH: usize = 35;
 
-// The extender is present when it claims this call's port.
-#[derive(Drop)]
-pub enum Extender {
+// A device of the record, absent or present with its own bytes.
+// Kept: 01 asks for an enum of its own ("`Option` devices become enums of their own").
+#[derive(Clone, Copy)]
+pub enum Device<B> {
     Absent,
-    Present(u8),
-}
-
-#[derive(Drop)]
-pub enum Ay {
-    Absent,
-    Present(u8),
-}
-
-#[derive(Drop)]
-pub enum Joystick {
-    Absent,
-    Present(u8),
+    Present(B),
 }
 
 // The three bytes of the mouse's ports.
-#[derive(Drop)]
+#[derive(Clone, Copy)]
 pub struct MousePorts {
     pub buttons: u8,
     pub x: u8,
     pub y: u8,
 }
 
-#[derive(Drop)]
-pub enum Mouse {
-    Absent,
-    Present(MousePorts),
-}
-
-// The device record: three sets of eight key rows, the tape bit, and the devices.
-#[derive(Drop)]
+// The device record: three sets of eight key rows, the tape bit, and the devices. The extender is present when it claims this call's port.
+#[derive(Clone, Copy)]
 pub struct Devices {
     pub rows: [u8; 24],
     pub tape: u8,
-    pub extender: Extender,
-    pub ay: Ay,
-    pub joystick: Joystick,
-    pub mouse: Mouse,
-}
-
-// What a port read gives: a device's byte, or what the floating bus holds.
-#[derive(Drop)]
-pub enum Answer {
-    Value(u8),
-    Floating,
+    pub extender: Device<u8>,
+    pub ay: Device<u8>,
+    pub joystick: Device<u8>,
+    pub mouse: Device<MousePorts>,
 }
 
 // Who hears a port write. Whether a paging write is locked out is the memory's to say.
@@ -79,94 +55,44 @@ pub enum Written {
     Nothing,
 }
 
-// What the ULA fetches at a clock: nothing, or a byte of the picture.
-#[derive(Drop)]
-pub enum FloatingPlace {
-    Idle,
+// A byte of the picture that the ULA fetches: row and column, and which of the column's two bytes.
+#[derive(Clone, Copy)]
+pub enum Fetched {
     Bitmap { row: u8, column: u8 },
     Attribute { row: u8, column: u8 },
 }
 
-// The processor's address of that byte.
-#[derive(Drop)]
-pub enum FloatingAddress {
-    Idle,
-    At(u16),
-}
-
-fn extender_from(flag: u8, byte: u8) -> Extender
-    ensures { result ≡ extender_of flag byte }
+fn device_from<B: Copy>(flag: u8, bytes: B) -> Device<B>
+    ensures { result ≡ device_of flag bytes }
 {
     match flag {
-        0 => Extender::Absent,
-        _ => Extender::Present(byte),
+        0 => Device::Absent,
+        _ => Device::Present(bytes),
     }
-}
-
-fn ay_from(flag: u8, byte: u8) -> Ay
-    ensures { result ≡ ay_of flag byte }
-{
-    match flag {
-        0 => Ay::Absent,
-        _ => Ay::Present(byte),
-    }
-}
-
-fn joystick_from(flag: u8, byte: u8) -> Joystick
-    ensures { result ≡ joystick_of flag byte }
-{
-    match flag {
-        0 => Joystick::Absent,
-        _ => Joystick::Present(byte),
-    }
-}
-
-fn mouse_from(flag: u8, buttons: u8, x: u8, y: u8) -> Mouse
-    ensures { result ≡ mouse_of flag buttons x y }
-{
-    match flag {
-        0 => Mouse::Absent,
-        _ => Mouse::Present(MousePorts { buttons, x, y }),
-    }
-}
-
-// The key rows are the first 24 bytes.
-fn rows_from(s: &[u8]) -> [u8; 24]
-    requires { length s.now ≡ devices_length }
-    ensures { result ≡ rows_of s.now }
-{
-    let mut rows = [0u8; 24];
-    let mut i = 0;
-    while i < 24 {
-        rows[i] = s[i];
-        i += 1;
-    }
-    rows
 }
 
 // The lent 35 bytes as a record, flags judged or not: a flag that is not 0 is a present device.
-pub fn devices_from(s: &[u8]) -> Devices
-    requires { length s.now ≡ devices_length }
+#[tactic(auto, unfolding(crate::specs::Devices::devices_of))]
+pub fn devices_from(s: &[u8; DEVICES_LENGTH]) -> Devices
     ensures { result ≡ devices_of s.now }
 {
-    let rows = rows_from(s);
-    let extender = extender_from(s[25], s[26]);
-    let ay = ay_from(s[27], s[28]);
-    let joystick = joystick_from(s[29], s[30]);
-    let mouse = mouse_from(s[31], s[32], s[33], s[34]);
+    let mouse = MousePorts {
+        buttons: s[32],
+        x: s[33],
+        y: s[34],
+    };
     Devices {
-        rows,
+        rows: *s.first_chunk().unwrap(),
         tape: s[24],
-        extender,
-        ay,
-        joystick,
-        mouse,
+        extender: device_from(s[25], s[26]),
+        ay: device_from(s[27], s[28]),
+        joystick: device_from(s[29], s[30]),
+        mouse: device_from(s[31], mouse),
     }
 }
 
 // Whether the tape bit and the four flags are 0 or 1; if not, the call is refused by number 4.
-pub fn flags(s: &[u8]) -> bool
-    requires { length s.now ≡ devices_length }
+pub fn flags(s: &[u8; DEVICES_LENGTH]) -> bool
     ensures { result ≡ flags_of s.now }
 {
     (s[24] < 2) & (s[25] < 2) & (s[27] < 2) & (s[29] < 2) & (s[31] < 2)
@@ -211,75 +137,54 @@ pub fn keys(rows: [u8; 24], tape: u8, port: u16) -> u8
     if tape == 0 { value ^ 0x40 } else { value }
 }
 
-fn joystick_answer(joystick: Joystick, port: u16) -> Answer
+fn joystick_answer(joystick: Device<u8>, port: u16) -> Option<u8>
     ensures { result ≡ with_joystick joystick port }
 {
     match joystick {
-        Joystick::Present(byte) => {
-            if port & 0x00E0 == 0 {
-                Answer::Value(byte)
-            } else {
-                Answer::Floating
-            }
-        }
-        Joystick::Absent => Answer::Floating,
+        Device::Present(byte) if port & 0x00E0 == 0 => Some(byte),
+        _ => None,
     }
 }
 
 // The AY keeps its class of ports also when it is absent: the joystick does not see them.
-fn ay_answer(ay: Ay, joystick: Joystick, port: u16) -> Answer
+fn ay_answer(ay: Device<u8>, joystick: Device<u8>, port: u16) -> Option<u8>
     ensures { result ≡ with_ay ay port (with_joystick joystick port) }
 {
     if port & 0xC002 == 0xC000 {
         match ay {
-            Ay::Present(byte) => Answer::Value(byte),
-            Ay::Absent => Answer::Floating,
+            Device::Present(byte) => Some(byte),
+            Device::Absent => None,
         }
     } else {
         joystick_answer(joystick, port)
     }
 }
 
-fn mouse_answer(mouse: Mouse, ay: Ay, joystick: Joystick, port: u16) -> Answer
+fn mouse_answer(
+    mouse: Device<MousePorts>,
+    ay: Device<u8>,
+    joystick: Device<u8>,
+    port: u16,
+) -> Option<u8>
     ensures { result ≡ with_mouse mouse port (with_ay ay port (with_joystick joystick port)) }
 {
     match mouse {
-        Mouse::Present(ports) => {
-            if port & 0x0121 == 0x0001 {
-                return Answer::Value(ports.buttons);
-            }
-            if port & 0x0521 == 0x0101 {
-                return Answer::Value(ports.x);
-            }
-            if port & 0x0521 == 0x0501 {
-                return Answer::Value(ports.y);
-            }
-            ay_answer(ay, joystick, port)
-        }
-        Mouse::Absent => ay_answer(ay, joystick, port),
+        Device::Present(ports) if port & 0x0121 == 0x0001 => Some(ports.buttons),
+        Device::Present(ports) if port & 0x0521 == 0x0101 => Some(ports.x),
+        Device::Present(ports) if port & 0x0521 == 0x0501 => Some(ports.y),
+        _ => ay_answer(ay, joystick, port),
     }
 }
 
-// Who answers a port read, in document 01's order.
-pub fn read_port(d: Devices, port: u16) -> Answer
+// Who answers a port read, in document 01's order: a device with its byte, or none, and then what the floating bus holds is read.
+#[tactic(auto, using(crate::proofs::Ways::is_even, crate::proofs::Ways::is_odd), unfolding(crate::specs::Order::read_order))]
+pub fn read_port(d: Devices, port: u16) -> Option<u8>
     ensures { result ≡ read_order d port }
 {
-    let extender = d.extender;
-    match extender {
-        Extender::Present(byte) => Answer::Value(byte),
-        Extender::Absent => {
-            let lowest = port & 0x0001;
-            if lowest == 0 {
-                let rows = d.rows;
-                let tape = d.tape;
-                Answer::Value(keys(rows, tape, port))
-            } else {
-                let mouse = d.mouse;
-                let ay = d.ay;
-                let joystick = d.joystick;
-                mouse_answer(mouse, ay, joystick, port)
-            }
-        }
+    match d.extender {
+        Device::Present(byte) => Some(byte),
+        Device::Absent if port & 0x0001 == 0 => Some(keys(d.rows, d.tape, port)),
+        Device::Absent => mouse_answer(d.mouse, d.ay, d.joystick, port),
     }
 }
 
@@ -287,10 +192,9 @@ pub fn read_port(d: Devices, port: u16) -> Answer
 pub fn write_port(m: ZXMachine, d: Devices, port: u16) -> Written
     ensures { hearers_of result ≡ hearers m d port }
 {
-    let extender = d.extender;
-    match extender {
-        Extender::Present(_) => Written::Extender,
-        Extender::Absent => written_by_port(m, port),
+    match d.extender {
+        Device::Present(_) => Written::Extender,
+        Device::Absent => written_by_port(m, port),
     }
 }
 
@@ -331,8 +235,8 @@ pub fn written_code(w: Written, paging: u8) -> u8
     }
 }
 
-// What the ULA fetches at a clock of the frame. Each arm is compiled with its machine's numbers, and divides by a constant.
-pub fn floating_place(m: ZXMachine, clock: u32) -> FloatingPlace
+// What the ULA fetches at a clock of the frame, if anything. Each arm is compiled with its machine's numbers, and divides by a constant.
+pub fn floating_place(m: ZXMachine, clock: u32) -> Option<Fetched>
     ensures { result ≡ floating_place (specs_of m) clock }
 {
     match m {
@@ -342,51 +246,50 @@ pub fn floating_place(m: ZXMachine, clock: u32) -> FloatingPlace
 }
 
 #[tactic(auto, unfolding(crate::specs::Floating::floating_place))]
-fn place_by<M: Numbers>(clock: u32) -> FloatingPlace
+fn place_by<M: Numbers>(clock: u32) -> Option<Fetched>
     ensures { result ≡ floating_place M.SPECS clock }
 {
     let origin = M::SPECS.block;
     let line = M::SPECS.line;
     if clock < origin {
-        return FloatingPlace::Idle;
+        return None;
     }
     let c = clock - origin;
     place_in(c / line, c % line)
 }
 
 #[tactic(auto, unfolding(crate::specs::Floating::floating_in))]
-fn place_in(row: u32, r: u32) -> FloatingPlace
+fn place_in(row: u32, r: u32) -> Option<Fetched>
     ensures { result ≡ floating_in row r }
 {
     if 192 <= row {
-        return FloatingPlace::Idle;
+        return None;
     }
     if 124 <= r {
-        return FloatingPlace::Idle;
+        return None;
     }
     if 3 < r % 8 {
-        return FloatingPlace::Idle;
+        return None;
     }
     let line = row as u8;
     let column = (2 * (r / 8) + r % 8 / 2) as u8;
-    if r % 2 == 0 {
-        FloatingPlace::Bitmap { row: line, column }
+    Some(if r % 2 == 0 {
+        Fetched::Bitmap { row: line, column }
     } else {
-        FloatingPlace::Attribute { row: line, column }
-    }
+        Fetched::Attribute { row: line, column }
+    })
 }
 
-// The address through which the floating bus reads: 0 1 0 Y7 Y6 Y2 Y1 Y0 | Y5 Y4 Y3 0 0 0 0 0 and the column, or the attribute's.
-pub fn floating_address(place: FloatingPlace) -> FloatingAddress
+// The processor's address of that byte: 0 1 0 Y7 Y6 Y2 Y1 Y0 | Y5 Y4 Y3 0 0 0 0 0 and the column, or the attribute's.
+pub fn floating_address(place: Option<Fetched>) -> Option<u16>
     ensures { result ≡ floating_address place }
 {
-    match place {
-        FloatingPlace::Idle => FloatingAddress::Idle,
-        FloatingPlace::Bitmap { row, column } => {
-            FloatingAddress::At(line_address(row as u16) + column as u16)
+    match place? {
+        Fetched::Bitmap { row, column } => {
+            Some(line_address(u16::from(row)) + u16::from(column))
         }
-        FloatingPlace::Attribute { row, column } => {
-            FloatingAddress::At(attribute_address(row as u16) + column as u16)
+        Fetched::Attribute { row, column } => {
+            Some(attribute_address(u16::from(row)) + u16::from(column))
         }
     }
 }

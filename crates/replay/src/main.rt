@@ -3,357 +3,271 @@
 // Where its definitions stand: nowhere; oracle/README.md has the table of records and lines.
 #![tactic(auto)]
 
-use script::Call;
+ghost use Rattle.std.specs.Prelude.{◌≤◌};
+ghost use Rattle.replay.specs.declared.TheConstants.{ROM, RAM};
+
+use judgement::{NUMBER_LENGTH, TIMED_LENGTH};
+use machine::{BORDER_LENGTH, PAGE_LENGTH, PICTURE_LENGTH, ZXMachine};
+use script::{Ask, Call, Change, Helper, Line, Op, Refused, Timed};
 use std::io;
 use std::io::{ErrorKind, Read};
 
-// ---- the calls
+// Bytes of the greater machine's memory.
+const ROM: usize = 32768;
 
-fn start(
-    rt: &impl Print,
-    call: Call,
-    state: &mut [u8],
-    devices: &mut [u8],
-    ram: &mut [u8],
-    a: &mut [u8],
-    b: &mut [u8],
-    border: &mut [u8],
-) -> io::Result<()> {
-    script::no_devices(devices, call.x);
-    script::say_done(
-        rt,
-        ulb_start::ulb_start_colour(state, ram, a, b, border, call.z, call.y as u32),
-    )
+const RAM: usize = 131072;
+
+// The parts of the memory that a machine has.
+#[derive(Clone, Copy)]
+struct Parts {
+    rom: usize,
+    ram: usize,
+    ghost rom_fits: { rom ≤ ROM },
+    ghost ram_fits: { ram ≤ RAM },
 }
 
-// A timed call: its refusal.
-fn timed(
-    call: Call,
-    state: &mut [u8],
-    devices: &[u8],
-    ram: &[u8],
-    a: &mut [u8],
-    b: &mut [u8],
-    border: &mut [u8],
-    answer: &mut [u8],
-) -> u8 {
-    if call.op == b'N' {
-        ulb_wait_internal::ulb_wait_internal(state, ram, a, b, border, call.z, answer)
-    } else if call.op == b'M' {
-        ulb_wait_mreq::ulb_wait_mreq(state, ram, a, b, border, call.y, call.z, answer)
-    } else if call.op == b'O' {
-        ulb_wait_no_mreq::ulb_wait_no_mreq(state, ram, a, b, border, call.y, call.z, answer)
-    } else if call.op == b'I' {
-        ulb_read_io::ulb_read_io(state, devices, ram, a, b, border, call.y, answer)
-    } else {
-        ulb_write_io::ulb_write_io(state, devices, ram, a, b, border, call.y, call.x, answer)
-    }
-}
-
-fn play_timed(
-    rt: &impl Print,
-    call: Call,
-    state: &mut [u8],
-    devices: &[u8],
-    ram: &[u8],
-    a: &mut [u8],
-    b: &mut [u8],
-    border: &mut [u8],
-) -> io::Result<()> {
-    let mut answer = [0u8; judgement::TIMED_LENGTH];
-    let before = script::byte_at(state, 17);
-    let refusal = timed(call, state, devices, ram, a, b, border, &mut answer);
-    let value = script::value_seen(
-        call.op,
-        answer[1],
-        script::byte_at(devices, 27),
-        before,
-        script::byte_at(state, 17),
-    );
-    script::say_timed(rt, refusal, value, &answer)
-}
-
-fn write_7ffd(rt: &impl Print, call: Call, state: &mut [u8]) -> io::Result<()> {
-    let mut answer = [0u8; judgement::NUMBER_LENGTH];
-    let before = script::byte_at(state, 17);
-    let refusal = ulb_state::ulb_write_7ffd(state, call.x, &mut answer);
-    if refusal == 0 {
-        script::say_number(
-            rt,
-            script::seen(answer[1], 1, before, script::byte_at(state, 17)) as u32,
-        )
-    } else {
-        script::say_done(rt, refusal)
-    }
-}
-
-// Calls that answer a number of the record alone.
-fn ask_state(rt: &impl Print, call: Call, state: &[u8]) -> io::Result<()> {
-    let mut answer = [0u8; judgement::NUMBER_LENGTH];
-    let refusal = if call.op == b'8' {
-        ulb_state::ulb_read_7ffd(state, &mut answer)
-    } else if call.op == b'T' {
-        ulb_state::ulb_int_active(state, &mut answer)
-    } else {
-        ulb_state::ulb_frames_count(state, &mut answer)
-    };
-    script::say_told(rt, refusal, &answer)
-}
-
-// Calls that answer a number of the memory or the pictures.
-fn ask_memory(
-    rt: &impl Print,
-    call: Call,
-    state: &[u8],
-    rom: &[u8],
-    ram: &[u8],
-    a: &[u8],
-    b: &[u8],
-) -> io::Result<()> {
-    let mut answer = [0u8; judgement::NUMBER_LENGTH];
-    let refusal = if call.op == b'G' {
-        ulb_memory::ulb_read_internal(state, rom, ram, call.y, &mut answer)
-    } else if call.op == b'Q' {
-        ulb_memory::ulb_ram_page(state, ram, call.x as u32, &mut answer)
-    } else if call.op == b'B' {
-        ulb_memory::ulb_block(state, rom, ram, call.x as u32, &mut answer)
-    } else {
-        ulb_pictures::ulb_shown_picture(state, a, b, &mut answer)
-    };
-    script::say_told(rt, refusal, &answer)
-}
-
-fn ask_helper(rt: &impl Print, call: Call) -> io::Result<()> {
-    let mut answer = [0u8; judgement::NUMBER_LENGTH];
-    let refusal = if call.op == b'a' {
-        ulb_helpers::ulb_bitmap_line_addr(call.z, &mut answer)
-    } else if call.op == b'b' {
-        ulb_helpers::ulb_bitmap_line_rel(call.z, &mut answer)
-    } else if call.op == b'c' {
-        ulb_helpers::ulb_bitmap_col_rel(call.z, &mut answer)
-    } else if call.op == b'd' {
-        ulb_helpers::ulb_attr_row_rel(call.z, &mut answer)
-    } else if call.op == b'e' {
-        ulb_helpers::ulb_attr_col_rel(call.z, &mut answer)
-    } else {
-        ulb_helpers::ulb_color_from_bits(call.z, &mut answer)
-    };
-    script::say_told(rt, refusal, &answer)
-}
-
-fn fill_rom(rt: &impl Print, call: Call, rom: &mut [u8]) -> io::Result<()> {
-    script::fill(rom, call.z);
-    script::say_done(rt, 0)
-}
-
-fn load_filled(
-    rt: &impl Print,
-    call: Call,
-    state: &[u8],
-    ram: &mut [u8],
-    page: &mut [u8],
-) -> io::Result<()> {
-    script::fill(page, call.z);
-    script::say_done(
-        rt,
-        ulb_memory::ulb_load_page(state, ram, page, call.x as u32),
-    )
-}
-
-fn load_page(
-    rt: &impl Print,
-    call: Call,
-    state: &[u8],
-    ram: &mut [u8],
-    spare: &mut [u8],
-) -> io::Result<()> {
-    if machine::PAGE_LENGTH <= spare.len() {
-        load_filled(rt, call, state, ram, &mut spare[..machine::PAGE_LENGTH])?;
-    }
-    Ok(())
-}
-
-fn still_picture(
-    rt: &impl Print,
-    call: Call,
-    state: &[u8],
-    ram: &[u8],
-    picture: &mut [u8],
-) -> io::Result<()> {
-    let refusal = ulb_pictures::ulb_still_picture(state, ram, picture, call.z);
-    if refusal == 0 {
-        script::say_number(rt, script::digest(picture))
-    } else {
-        script::say_done(rt, refusal)
-    }
-}
-
-// A call that changes the record, the devices or the memory, and no picture.
-fn change(
-    rt: &impl Print,
-    call: Call,
-    state: &mut [u8],
-    devices: &mut [u8],
-    rom: &mut [u8],
-    ram: &mut [u8],
-    spare: &mut [u8],
-) -> io::Result<()> {
-    let op = call.op;
-    match op {
-        b'D' => script::set_device(rt, call, devices),
-        b'P' => script::say_done(
-            rt,
-            ulb_write_internal::ulb_write_internal(state, ram, call.y, call.x),
-        ),
-        b'7' => write_7ffd(rt, call, state),
-        b'Z' => script::say_done(rt, ulb_state::ulb_reset_frame_counter(state)),
-        b'L' => load_page(rt, call, state, ram, spare),
-        _ => fill_rom(rt, call, rom),
-    }
-}
-
-// A call that only answers.
-fn ask(
-    rt: &impl Print,
-    call: Call,
-    state: &[u8],
-    rom: &[u8],
-    ram: &[u8],
-    a: &[u8],
-    b: &[u8],
-    border: &[u8],
-    spare: &mut [u8],
-) -> io::Result<()> {
-    let op = call.op;
-    match op {
-        b'8' | b'T' | b'F' => ask_state(rt, call, state),
-        b'G' | b'Q' | b'B' | b'V' => ask_memory(rt, call, state, rom, ram, a, b),
-        b'K' => still_picture(rt, call, state, ram, spare),
-        b'C' => script::say_clock(rt, state),
-        b'H' => script::say_digests(rt, ram, a, b, border),
-        _ => ask_helper(rt, call),
-    }
-}
-
-fn play(
-    rt: &impl Print,
-    call: Call,
-    state: &mut [u8],
-    devices: &mut [u8],
-    rom: &mut [u8],
-    ram: &mut [u8],
-    a: &mut [u8],
-    b: &mut [u8],
-    border: &mut [u8],
-    spare: &mut [u8],
-) -> io::Result<()> {
-    let k = script::kind(call.op);
-    match k {
-        0 => start(rt, call, state, devices, ram, a, b, border),
-        1 => play_timed(rt, call, state, devices, ram, a, b, border),
-        2 => change(rt, call, state, devices, rom, ram, spare),
-        _ => ask(rt, call, state, rom, ram, a, b, border, spare),
-    }
-}
-
-// Plays a record on the parts of the memory that its machine has.
-fn play_on(
-    rt: &impl Print,
-    call: Call,
-    state: &mut [u8],
-    devices: &mut [u8],
-    rom: &mut [u8],
-    ram: &mut [u8],
-    a: &mut [u8],
-    b: &mut [u8],
-    border: &mut [u8],
-    spare: &mut [u8],
-) -> io::Result<()> {
-    let machine = script::machine_of(call, state);
-    let r = script::rom_bytes(machine);
-    let m = script::ram_bytes(machine);
-    if r <= rom.len() {
-        if m <= ram.len() {
-            play(
-                rt,
-                call,
-                state,
-                devices,
-                &mut rom[..r],
-                &mut ram[..m],
-                a,
-                b,
-                border,
-                spare,
-            )?;
+impl From<ZXMachine> for Parts {
+    fn from(machine: ZXMachine) -> Parts {
+        let specs = machine.specs();
+        Parts {
+            rom: specs.rom,
+            ram: specs.ram,
         }
     }
-    Ok(())
 }
 
-// Reads a record and plays it. Whether there was one.
-fn play_next(
-    rt: &impl Print,
-    input: &mut impl Read,
-    state: &mut [u8],
-    devices: &mut [u8],
-    rom: &mut [u8],
-    ram: &mut [u8],
-    a: &mut [u8],
-    b: &mut [u8],
-    border: &mut [u8],
-    spare: &mut [u8],
-) -> io::Result<bool> {
-    let mut bytes = [0u8; 8];
+// All that is lent to the library's calls.
+#[derive(Drop)]
+struct Board {
+    state: [u8; record::LENGTH],
+    devices: [u8; ports::DEVICES_LENGTH],
+    rom: [u8; ROM],
+    ram: [u8; RAM],
+    a: [u8; PICTURE_LENGTH],
+    b: [u8; PICTURE_LENGTH],
+    border: [u8; BORDER_LENGTH],
+    // A page to be loaded, and a still picture.
+    page: [u8; PAGE_LENGTH],
+    still: [u8; PICTURE_LENGTH],
+}
+
+impl Board {
+    // The byte of the last write to port 7FFD.
+    fn paging(&self) -> u8 {
+        script::byte_at(&self.state, 17)
+    }
+
+    fn start(&mut self, call: Call, parts: Parts) -> Result<Line, Refused> {
+        let state = &mut self.state;
+        let devices = &mut self.devices;
+        let ram = &mut self.ram[..];
+        let a = &mut self.a;
+        let b = &mut self.b;
+        let border = &mut self.border;
+        script::no_devices(devices, call.x);
+        script::accepted(ulb_start::ulb_start_colour(
+            state,
+            &mut ram[..parts.ram],
+            a,
+            b,
+            border,
+            call.z,
+            u32::from(call.y),
+        ))?;
+        Ok(Line::Done)
+    }
+
+    // Its refusal.
+    fn timed(&mut self, which: Timed, call: Call, parts: Parts, answer: &mut [u8]) -> u8 {
+        let state = &mut self.state;
+        let devices = &self.devices;
+        let ram = &self.ram[..parts.ram];
+        let a = &mut self.a;
+        let b = &mut self.b;
+        let border = &mut self.border;
+        match which {
+            Timed::WaitInternal => {
+                ulb_wait_internal::ulb_wait_internal(state, ram, a, b, border, call.z, answer)
+            }
+            Timed::WaitMreq => {
+                ulb_wait_mreq::ulb_wait_mreq(state, ram, a, b, border, call.y, call.z, answer)
+            }
+            Timed::WaitNoMreq => {
+                ulb_wait_no_mreq::ulb_wait_no_mreq(state, ram, a, b, border, call.y, call.z, answer)
+            }
+            Timed::ReadIo => {
+                ulb_read_io::ulb_read_io(state, devices, ram, a, b, border, call.y, answer)
+            }
+            Timed::WriteIo => {
+                ulb_write_io::ulb_write_io(
+                    state, devices, ram, a, b, border, call.y, call.x, answer,
+                )
+            }
+        }
+    }
+
+    // The line of a timed call begins with its value, or with what is seen of a port write.
+    fn play_timed(&mut self, which: Timed, call: Call, parts: Parts) -> Result<Line, Refused> {
+        let mut answer = [0; TIMED_LENGTH];
+        let before = self.paging();
+        let refusal = self.timed(which, call, parts, &mut answer);
+        let value = match which {
+            Timed::WriteIo => script::seen(answer[1], self.devices[27], before, self.paging()),
+            _ => answer[1],
+        };
+        script::accepted(refusal)?;
+        Ok(script::timed_line(value, answer))
+    }
+
+    fn write_7ffd(&mut self, call: Call) -> Result<Line, Refused> {
+        let mut answer = [0; NUMBER_LENGTH];
+        let before = self.paging();
+        script::accepted(ulb_state::ulb_write_7ffd(&mut self.state, call.x, &mut answer))?;
+        let code = script::seen(answer[1], 1, before, self.paging());
+        Ok(Line::Number(u32::from(code)))
+    }
+
+    fn load_page(&mut self, call: Call, parts: Parts) -> Result<Line, Refused> {
+        let state = &self.state;
+        let ram = &mut self.ram[..];
+        let page = &mut self.page;
+        script::fill(page, call.z);
+        let number = u32::from(call.x);
+        script::accepted(ulb_memory::ulb_load_page(state, &mut ram[..parts.ram], page, number))?;
+        Ok(Line::Done)
+    }
+
+    fn write_internal(&mut self, call: Call, parts: Parts) -> Result<Line, Refused> {
+        let state = &self.state;
+        let ram = &mut self.ram[..];
+        let ram = &mut ram[..parts.ram];
+        script::accepted(ulb_write_internal::ulb_write_internal(state, ram, call.y, call.x))?;
+        Ok(Line::Done)
+    }
+
+    fn reset_frames(&mut self) -> Result<Line, Refused> {
+        script::accepted(ulb_state::ulb_reset_frame_counter(&mut self.state))?;
+        Ok(Line::Done)
+    }
+
+    fn fill_rom(&mut self, call: Call, parts: Parts) -> Line {
+        let rom = &mut self.rom[..];
+        script::fill(&mut rom[..parts.rom], call.z);
+        Line::Done
+    }
+
+    fn change(&mut self, which: Change, call: Call, parts: Parts) -> Option<Result<Line, Refused>> {
+        Some(match which {
+            Change::Device => Ok(script::set_device(call, &mut self.devices)?),
+            Change::WriteInternal => self.write_internal(call, parts),
+            Change::Write7ffd => self.write_7ffd(call),
+            Change::ResetFrames => self.reset_frames(),
+            Change::LoadPage => self.load_page(call, parts),
+            Change::FillRom => Ok(self.fill_rom(call, parts)),
+        })
+    }
+
+    fn still_picture(&mut self, call: Call, parts: Parts) -> Result<Line, Refused> {
+        let state = &self.state;
+        let ram = &self.ram;
+        let still = &mut self.still;
+        script::accepted(ulb_pictures::ulb_still_picture(state, &ram[..parts.ram], still, call.z))?;
+        Ok(Line::Number(script::digest(still)))
+    }
+
+    fn digests(&self, parts: Parts) -> Line {
+        Line::Digests {
+            a: script::digest(&self.a),
+            b: script::digest(&self.b),
+            border: script::digest(&self.border),
+            ram: script::digest(&self.ram[..parts.ram]),
+        }
+    }
+
+    fn ask(&mut self, which: Ask, call: Call, parts: Parts) -> Result<Line, Refused> {
+        let mut answer = [0; NUMBER_LENGTH];
+        let state = &self.state;
+        let rom = &self.rom[..parts.rom];
+        let ram = &self.ram[..parts.ram];
+        let number = u32::from(call.x);
+        let refusal = match which {
+            Ask::Read7ffd => ulb_state::ulb_read_7ffd(state, &mut answer),
+            Ask::IntActive => ulb_state::ulb_int_active(state, &mut answer),
+            Ask::FramesCount => ulb_state::ulb_frames_count(state, &mut answer),
+            Ask::ReadInternal => {
+                ulb_memory::ulb_read_internal(state, rom, ram, call.y, &mut answer)
+            }
+            Ask::RamPage => ulb_memory::ulb_ram_page(state, ram, number, &mut answer),
+            Ask::Block => ulb_memory::ulb_block(state, rom, ram, number, &mut answer),
+            Ask::ShownPicture => {
+                ulb_pictures::ulb_shown_picture(state, &self.a, &self.b, &mut answer)
+            }
+            Ask::StillPicture => return self.still_picture(call, parts),
+            Ask::Clock => return Ok(script::clock_line(state)),
+            Ask::Digests => return Ok(self.digests(parts)),
+            Ask::Helper(helper) => help(helper, call.z, &mut answer),
+        };
+        script::accepted(refusal)?;
+        Ok(script::number_line(answer))
+    }
+
+    // Plays a record on the parts of the memory that its machine has. There is no line for a byte that the device record does not have.
+    fn play(&mut self, call: Call) -> Option<Result<Line, Refused>> {
+        let parts = Parts::from(call.machine(&self.state));
+        match call.op {
+            Op::Start => Some(self.start(call, parts)),
+            Op::Timed(which) => Some(self.play_timed(which, call, parts)),
+            Op::Change(which) => self.change(which, call, parts),
+            Op::Ask(which) => Some(self.ask(which, call, parts)),
+        }
+    }
+}
+
+// Its refusal.
+fn help(which: Helper, number: u32, answer: &mut [u8]) -> u8 {
+    match which {
+        Helper::BitmapLineAddr => ulb_helpers::ulb_bitmap_line_addr(number, answer),
+        Helper::BitmapLineRel => ulb_helpers::ulb_bitmap_line_rel(number, answer),
+        Helper::BitmapColRel => ulb_helpers::ulb_bitmap_col_rel(number, answer),
+        Helper::AttrRowRel => ulb_helpers::ulb_attr_row_rel(number, answer),
+        Helper::AttrColRel => ulb_helpers::ulb_attr_col_rel(number, answer),
+        Helper::ColorFromBits => ulb_helpers::ulb_color_from_bits(number, answer),
+    }
+}
+
+// The next record, if there is one.
+fn next_call(input: &mut impl Read) -> io::Result<Option<Call>> {
+    let mut bytes = [0; 8];
     match input.read_exact(&mut bytes) {
-        Ok(()) => {}
-        Err(e) if e.kind() == ErrorKind::UnexpectedEof => return Ok(false),
-        Err(e) => return Err(e),
+        Ok(()) => Ok(Some(Call::from(bytes))),
+        Err(e) if e.kind() == ErrorKind::UnexpectedEof => Ok(None),
+        Err(e) => Err(e),
     }
-    let call = script::call_of(&bytes);
-    play_on(rt, call, state, devices, rom, ram, a, b, border, spare)?;
-    Ok(true)
-}
-
-// A proved loop has to end, and nothing says that the input does: so it counts its turns down, from more than the stored script has.
-fn play_all(
-    rt: &impl Print,
-    input: &mut impl Read,
-    state: &mut [u8],
-    devices: &mut [u8],
-    rom: &mut [u8],
-    ram: &mut [u8],
-    a: &mut [u8],
-    b: &mut [u8],
-    border: &mut [u8],
-    spare: &mut [u8],
-) -> io::Result<()> {
-    let mut turns: u32 = 1000000;
-    while turns > 0 && play_next(rt, input, state, devices, rom, ram, a, b, border, spare)? {
-        turns -= 1;
-    }
-    Ok(())
 }
 
 fn main(rt: HostRuntime) -> io::Result<()> {
-    let mut state = [0u8; record::LENGTH];
-    let mut devices = [0u8; ports::DEVICES_LENGTH];
-    let mut rom = [0u8; 32768];
-    let mut ram = [0u8; 131072];
-    let mut a = [0u8; machine::PICTURE_LENGTH];
-    let mut b = [0u8; machine::PICTURE_LENGTH];
-    let mut border = [0u8; machine::BORDER_LENGTH];
-    let mut spare = [0u8; machine::PICTURE_LENGTH];
-    play_all(
-        &rt,
-        &mut rt.stdin(),
-        &mut state,
-        &mut devices,
-        &mut rom,
-        &mut ram,
-        &mut a,
-        &mut b,
-        &mut border,
-        &mut spare,
-    )
+    let mut board = Board {
+        state: [0; record::LENGTH],
+        devices: [0; ports::DEVICES_LENGTH],
+        rom: [0; ROM],
+        ram: [0; RAM],
+        a: [0; PICTURE_LENGTH],
+        b: [0; PICTURE_LENGTH],
+        border: [0; BORDER_LENGTH],
+        page: [0; PAGE_LENGTH],
+        still: [0; PICTURE_LENGTH],
+    };
+    let mut input = rt.stdin();
+    // A proved loop has to end, and nothing says that the input does: so its turns are counted, more than the stored script has.
+    for _ in 0..1_000_000 {
+        let Some(call) = next_call(&mut input)? else {
+            break
+        };
+        match board.play(call) {
+            None => {}
+            Some(Ok(line)) => println!(rt; "{line}")?,
+            Some(Err(refused)) => println!(rt; "{refused}")?,
+        }
+    }
+    Ok(())
 }

@@ -8,8 +8,8 @@ use native.Mathlib.Omega.{arith}
 use lib.ListN.{set, replicate}
 use lib.Seq.{sets}
 use Rattle.laws.proofs.Cases.{by_bool}
-use Rattle.machine.specs.declared.BorderPlace.{BorderPlace}
-use Rattle.machine.specs.declared.BorderPlace.TheVariants.{At, FrameEnd}
+use Rattle.machine.specs.declared.BorderPixel.{BorderPixel}
+use Rattle.std.specs.Prelude.{Option, Some, None}
 use Rattle.machine.specs.Numbers.{specs_of}
 use Rattle.machine.specs.Timing.{border_at, is_frame_end}
 use Rattle.machine.proofs.Bounds.{Within, border_within}
@@ -117,18 +117,18 @@ module _ (color : ZXColor) (k : ℕ) (b : ZXBorder) (e : Edge) (r : SameBorder b
   fill_back : (px : List ℕ) → fill_to 0 0 b.beam_last px ≡ px
   fill_back px = fill_is 0 0 b.beam_last px ∙ filled_none (beam_at b.beam_last) 0 (color_byte b.beam_last.color) px (omega arith)
 
-  write_open : (place : BorderPlace) → Within place → b.beam_block ≡ false → SameBorder (set_at (next_of place) color b) (inked_at place k e)
+  write_open : (place : Option BorderPixel) → Within place → b.beam_block ≡ false → SameBorder (set_at (next_of place) color b) (inked_at place k e)
   unfolding inked_at
-  write_open (At line pixel) i f =
+  write_open (Some p) i f =
       rw f
       (record {
-        pixels = fill_to_lem line pixel (320 * line + pixel) (omega arith);
+        pixels = fill_to_lem p.line p.pixel (320 * p.line + p.pixel) (omega arith);
         beam = omega (arith, i);
         colour = ink;
         blocked = refl;
         unchanged = λ g. absurd (false≢true (sym g));
       })
-  write_open FrameEnd i f =
+  write_open None i f =
       rw f
       (record {
         pixels = fill_back (fill_to 239 320 b.beam_last b.buffer) ∙ fill_to_lem 239 320 76800 refl;
@@ -139,10 +139,10 @@ module _ (color : ZXColor) (k : ℕ) (b : ZXBorder) (e : Edge) (r : SameBorder b
       })
 
   -- where the beam is blocked, at frame end and with pairs 0, only the colour changes
-  write_blocked : (place : BorderPlace) → is_frame_end place ≡ true → e.pairs ≡ 0 → b.beam_block ≡ true
+  write_blocked : (place : Option BorderPixel) → is_frame_end place ≡ true → e.pairs ≡ 0 → b.beam_block ≡ true
       → SameBorder (set_at (next_of place) color b) (record { colour = k; blocked = e.blocked; pairs = e.pairs; pixels = e.pixels })
-  write_blocked (At line pixel) end none f = absurd (false≢true end)
-  write_blocked FrameEnd end none f =
+  write_blocked (Some p) end none f = absurd (false≢true end)
+  write_blocked None end none f =
       rw f
       (record {
         pixels = r.pixels;
@@ -152,7 +152,7 @@ module _ (color : ZXColor) (k : ℕ) (b : ZXBorder) (e : Edge) (r : SameBorder b
         unchanged = λ g. none;
       })
 
-  by_block : (place : BorderPlace) → Within place → (e.blocked ≡ true → is_frame_end place ≡ true) → (e.blocked ≡ true → e.pairs ≡ 0)
+  by_block : (place : Option BorderPixel) → Within place → (e.blocked ≡ true → is_frame_end place ≡ true) → (e.blocked ≡ true → e.pairs ≡ 0)
       → SameBorder (set_at (next_of place) color b) (inked place k e)
   unfolding inked
   by_block place i end none =

@@ -9,10 +9,7 @@ use lib.Bits.{bit_and, and_mask}
 use borrow.Author.Tests.{leb-true, leb-false, lt-ltb, le-ltb, le-leb, lt-leb}
 use Rattle.laws.proofs.Below.{same}
 use Rattle.offsets.specs.Offset.{line_start}
-use Rattle.screen.specs.declared.Helped.{Helped}
-use Rattle.screen.specs.declared.Helped.TheVariants.{Number, OutOfRange}
-use Rattle.screen.specs.declared.Coloured.{Coloured}
-use Rattle.screen.specs.declared.Coloured.TheVariants as coloured
+use Rattle.std.specs.Prelude.{Option, Some, None}
 use Rattle.screen.specs.declared.ZXColor as picture
 use Rattle.screen.specs.declared.ZXColor.TheVariants as color
 use Rattle.screen.specs.declared.ZXBrightness as bright
@@ -30,15 +27,15 @@ use Rattle.rustzx.specs.Colors.{ZXColor, Black, Blue, Red, Purple, Green, Cyan, 
 use Rattle.rustzx.specs.Related.{our_colour, our_brightness, our_attribute}
 
 -- ---- the five helpers: a number is that number, and a refusal 8 is a panic
-abbrev pub as_run : Helped → OrPanic ℕ
-as_run (Number n) = done n
-as_run OutOfRange = panics
+abbrev pub as_run : Option ℕ → OrPanic ℕ
+as_run (Some n) = done n
+as_run None = panics
 
 below_is : (t : Bool) (n k : ℕ) → leb n k ≡ t → ltb n (k + 1) ≡ t
 below_is true n k e = let h = leb-true n k e in lt-ltb n (k + 1) (omega arith)
 below_is false n k e = let h = leb-false n k e in le-ltb n (k + 1) (omega arith)
 
-asserted : (t : Bool) {x y : ℕ} → (t ≡ true → x ≡ y) → assert t (done x) ≡ as_run (cond t (Number y) OutOfRange)
+asserted : (t : Bool) {x y : ℕ} → (t ≡ true → x ≡ y) → assert t (done x) ≡ as_run (cond t (Some y) None)
 asserted true f = ap done (f refl)
 asserted false f = refl
 
@@ -119,9 +116,9 @@ attribute_by f e g h = cc
 pub attribute_there : (a : attribute.ZXAttribute) → our_attribute (rust_attribute a) ≡ a
 attribute_there a = attribute_by a.flash (colour_there a.ink) (colour_there a.paper) (brightness_there a.brightness)
 
-abbrev pub coloured_run : Coloured → OrPanic ZXColor
-coloured_run (coloured.Colour c) = done (rust_colour c)
-coloured_run coloured.OutOfRange = panics
+abbrev pub coloured_run : Option picture.ZXColor → OrPanic ZXColor
+coloured_run (Some c) = done (rust_colour c)
+coloured_run None = panics
 
 -- from_bits: every number, those that panic among them
 pub from_bits_is : (n : ℕ) → from_bits n ≡ coloured_run (ours.from_bits n)

@@ -8,8 +8,8 @@ use native.Mathlib.Omega.{arith}
 use lib.Dec.{ltb, leb, lit<}
 use lib.ListN.{length, length-map}
 use Rattle.laws.proofs.Cases.{by_bool}
-use Rattle.machine.specs.declared.BorderPlace.{BorderPlace}
-use Rattle.machine.specs.declared.BorderPlace.TheVariants.{At, FrameEnd}
+use Rattle.machine.specs.declared.BorderPixel.{BorderPixel}
+use Rattle.std.specs.Prelude.{Option, Some, None}
 use Rattle.machine.specs.Numbers.{specs_of}
 use Rattle.machine.specs.Timing.{border_at}
 use Rattle.machine.proofs.Bounds.{Within, border_within, position_small}
@@ -95,9 +95,9 @@ pub attribute_cell_in_range : (rel : ℕ) → 0x1800 ≤ rel → rel ≤ 0x1AFF 
 attribute_cell_in_range rel h k = omega arith
 
 -- the border's fills end at or before the last of its 320 x 240 pixels
-next_small : (place : BorderPlace) → Within place → (next_of place).line * screen_width + (next_of place).pixel ≤ 76800
-next_small (At line pixel) i = omega (arith, i)
-next_small FrameEnd i = omega arith
+next_small : (place : Option BorderPixel) → Within place → (next_of place).line * screen_width + (next_of place).pixel ≤ 76800
+next_small (Some p) i = omega (arith, i)
+next_small None i = omega arith
 
 pub fills_in_range : (m : ZXMachine) (t : ℕ) → (next_border_pixel m t).line * screen_width + (next_border_pixel m t).pixel ≤ 76800
 fills_in_range m t = rw (border_is_lem m t) (next_small (border_at (specs_of (our_machine m)) t) (border_within (specs_of (our_machine m)) t))

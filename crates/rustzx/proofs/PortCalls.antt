@@ -14,8 +14,8 @@ use Rattle.machine.specs.Contended.{port_contended}
 use Rattle.screen.specs.Colour.{colour_of}
 use Rattle.memory.specs.Paging.{page_contended, write7ffd, paged_code}
 use Rattle.ports.specs.declared.Devices.{Devices}
-use Rattle.ports.specs.declared.Extender.{Extender}
-use Rattle.ports.specs.declared.Extender.TheVariants as extender
+use Rattle.ports.specs.declared.Device.{Device}
+use Rattle.ports.specs.declared.Device.TheVariants.{Absent, Present}
 use Rattle.ports.specs.Order.{read_order, class_c000, class8000, even_port, paging_port, claims, has7ffd}
 use Rattle.ports.specs.Hearers as hearer
 use Rattle.ports.specs.Hearers.{Hearer, port_hearers, hearers, heard_code}
@@ -32,7 +32,7 @@ use Rattle.rustzx.specs.Memory.{get_page}
 use Rattle.rustzx.specs.Colors.{ZXColor, from_bits}
 use Rattle.rustzx.specs.Controller as rust
 use Rattle.rustzx.specs.Controller.{ZXController, page_is_contended, addr_is_contended, wait_internal, do_contention_and_wait, do_contention, contended_first, io_contention_first, io_contention_last, set_border_color, to_extender, to_ay_select, to_ay_write, to_border, to_nobody, Reached, Wrote, reaches, wait_mreq, read_io, is128k, extender_write, write_io}
-use Rattle.rustzx.specs.Related.{our_machine, extender_gives, attached_of, Related}
+use Rattle.rustzx.specs.Related.{our_machine, byte_gives, attached_of, Related}
 use Rattle.rustzx.specs.Calls.{reached_code, paging_code}
 use Rattle.rustzx.proofs.Timing.{contention_is, port_is}
 use Rattle.rustzx.proofs.Helpers.{rust_colour, from_bits_done, colour_back}
@@ -199,10 +199,10 @@ module _ (m : ZXMachine) (rom : List ℕ) where
       (pick_hears v w (paging_port port && has7ffd (our_machine m)) (hearer.paging ∷ []) [] (λ t. paging_hears v c w r (and_right (paging_port port) (has7ffd (our_machine m)) t))
       (unheard to_nobody [] v c w r refl refl)))))
 
-  extender_hears : (x : Extender) (port v : ℕ) (c : ZXController) (w : World) → Related m rom c w
-      → Hears (cond (claims x) (hearer.extender ∷ []) (port_hearers (our_machine m) port)) v w (extender_write (extender_gives x) port v c)
-  extender_hears (extender.Present own) port v c w r = unheard to_extender (hearer.extender ∷ []) v c w r refl refl
-  extender_hears extender.Absent port v c w r = order_hears port v c w r
+  extender_hears : (x : Device ℕ) (port v : ℕ) (c : ZXController) (w : World) → Related m rom c w
+      → Hears (cond (claims x) (hearer.extender ∷ []) (port_hearers (our_machine m) port)) v w (extender_write (byte_gives x) port v c)
+  extender_hears (Present own) port v c w r = unheard to_extender (hearer.extender ∷ []) v c w r refl refl
+  extender_hears Absent port v c w r = order_hears port v c w r
 
   -- WRITE_IO: it does not panic, acts where the port write acts, and takes its steps; and whom it reached gives the write's code.
   pub write_follows : (d : Devices) (port v : ℕ) (c : ZXController) (w : World) → Related m rom c w

@@ -12,22 +12,16 @@ use native.Mathlib.Omega.{arith}
 use lib.Dec.{ltb, leb, eqb}
 use lib.Bits.{bit_and, bit_xor, and_mask}
 use borrow.Author.Tests.{ltb-true, ltb-false, leb-true, leb-false, lt-ltb, le-ltb, le-leb, eq-eqb, ne_eqb}
+use Rattle.std.specs.Prelude.{Option, Some, None}
 use Rattle.machine.specs.Numbers.{specs_of}
 use Rattle.screen.proofs.OneBit.{mask_bit}
 use Rattle.memory.specs.Memory.{place_of, peeked}
 use Rattle.ports.specs.declared.Devices.{Devices}
-use Rattle.ports.specs.declared.Extender.{Extender}
-use Rattle.ports.specs.declared.Extender.TheVariants as extender
-use Rattle.ports.specs.declared.Ay.{Ay}
-use Rattle.ports.specs.declared.Ay.TheVariants as ay
-use Rattle.ports.specs.declared.Joystick.{Joystick}
-use Rattle.ports.specs.declared.Joystick.TheVariants as joystick
-use Rattle.ports.specs.declared.Mouse.{Mouse}
-use Rattle.ports.specs.declared.Mouse.TheVariants as mouse
-use Rattle.ports.specs.declared.Answer.{Answer}
-use Rattle.ports.specs.declared.Answer.TheVariants.{Value, Floating}
-use Rattle.ports.specs.declared.FloatingPlace.{FloatingPlace}
-use Rattle.ports.specs.declared.FloatingPlace.TheVariants as place
+use Rattle.ports.specs.declared.Device.{Device}
+use Rattle.ports.specs.declared.Device.TheVariants.{Absent, Present}
+use Rattle.ports.specs.declared.MousePorts.{MousePorts}
+use Rattle.ports.specs.declared.Fetched.{Fetched}
+use Rattle.ports.specs.declared.Fetched.TheVariants.{Bitmap, Attribute}
 use Rattle.ports.specs.Keys.{selected, row_in, rows_and, keys_read}
 use Rattle.offsets.specs.Offset.{line_start}
 use Rattle.ports.specs.Floating.{column_at, fetched, floating_in, floating_place, floating_address}
@@ -40,7 +34,7 @@ use Rattle.rustzx.specs.Panics.{OrPanic, done, each}
 use Rattle.rustzx.specs.Memory.{read}
 use Rattle.rustzx.specs.Addresses.{bitmap_line_addr}
 use Rattle.rustzx.specs.Controller.{ZXController, keyboard_byte, row_read, ula_read, floating_column, fetch_floating, floating_bus_value, kempston_read, ay_read, after_mouse, mouse_read, extender_read}
-use Rattle.rustzx.specs.Related.{our_machine, extender_gives, ay_gives, joystick_gives, mouse_gives, attached_of, SameMemory, Related}
+use Rattle.rustzx.specs.Related.{our_machine, byte_gives, mouse_gives, attached_of, SameMemory, Related}
 use Rattle.rustzx.proofs.Loops.{each_last}
 use Rattle.rustzx.proofs.Timing.{numbers, port_is}
 use Rattle.rustzx.proofs.Helpers.{line_address_is}
@@ -106,13 +100,13 @@ idle_bit r true e = let h = ltb-true 3 (r % 8) e in mask_bit 2 r ∙ ap not (eq-
 idle_bit r false e = let h = ltb-false 3 (r % 8) e in mask_bit 2 r ∙ ap not (ne_eqb (r / 4 % 2) 1 (λ g. omega arith))
 
 module _ (m : ZXMachine) (rom : List ℕ) (c : ZXController) (core : Core) (mem : SameMemory (our_machine m) rom core.ram core.paging c.memory) where
-  abbrev byte : FloatingPlace → ℕ
+  abbrev byte : Option Fetched → ℕ
   byte p = floating_byte (our_machine m) (floating_address p) core
 
   read_video : (addr : ℕ) → addr / 16384 ≡ 1 → read c.memory addr ≡ peeked (our_machine m) core.paging [] core.ram addr
   read_video addr e = read_is (our_machine m) rom core.ram core.paging c.memory mem addr ∙ video_byte m core.paging rom core.ram addr e
 
-  pick_byte : (t : Bool) {x y : OrPanic ℕ} (u v : FloatingPlace) → x ≡ done (byte u) → y ≡ done (byte v) → cond t x y ≡ done (byte (cond t u v))
+  pick_byte : (t : Bool) {x y : OrPanic ℕ} (u v : Option Fetched) → x ≡ done (byte u) → y ≡ done (byte v) → cond t x y ≡ done (byte (cond t u v))
   pick_byte true u v p q = p
   pick_byte false u v p q = q
 
@@ -126,12 +120,12 @@ module _ (m : ZXMachine) (rom : List ℕ) (c : ZXController) (core : Core) (mem 
       let small = line_small row h in
       let e : 0x5800 + (row / 8 * 32 + column_at r) ≡ 0x5800 + row / 8 * 32 + column_at r = omega arith in
       rw (col, line_done row h, e)
-      (pick_byte (eqb (r % 2) 0) (place.Bitmap row (column_at r)) (place.Attribute row (column_at r))
+      (pick_byte (eqb (r % 2) 0) (Some (Bitmap row (column_at r))) (Some (Attribute row (column_at r)))
       (ap done (read_video (0x4000 + line_start row + column_at r) (omega arith))) (ap done (read_video (0x5800 + row / 8 * 32 + column_at r) (omega arith))))
 
   -- where the ULA fetches nothing, FFh
   floating_at_lem : (row r : ℕ) (t u v : Bool) → leb 192 row ≡ t → leb 124 r ≡ u → ltb 3 (r % 8) ≡ v
-      → cond (not t && not u && not v) (fetch_floating c row r) (done 0xFF) ≡ done (byte (cond t place.Idle (cond u place.Idle (cond v place.Idle (fetched row r)))))
+      → cond (not t && not u && not v) (fetch_floating c row r) (done 0xFF) ≡ done (byte (cond t None (cond u None (cond v None (fetched row r)))))
   floating_at_lem row r true u v p q s = refl
   floating_at_lem row r false true v p q s = refl
   floating_at_lem row r false false true p q s = refl
@@ -150,7 +144,7 @@ unfolding floating_bus_value floating_bus floating_place
 floating_by m rom c core e mem t =
     let o = specs_of (our_machine m) in
     rw (e, t, (numbers m).floating, (numbers m).line, (numbers m).screen_row)
-    (pick_byte m rom c core mem (ltb core.clock o.block) place.Idle (floating_in ((core.clock - o.block) / o.line) ((core.clock - o.block) % o.line)) refl
+    (pick_byte m rom c core mem (ltb core.clock o.block) None (floating_in ((core.clock - o.block) / o.line) ((core.clock - o.block) % o.line)) refl
     (floating_in_lem m rom c core mem ((core.clock - o.block) / o.line) ((core.clock - o.block) % o.line)))
 
 pub floating_is : (m : ZXMachine) (rom : List ℕ) (c : ZXController) (w : World) → Related m rom c w → floating_bus_value c ≡ done (floating_bus (our_machine m) w.core)
@@ -158,39 +152,39 @@ floating_is m rom c w r = floating_by m rom c w.core r.machine r.memory r.clock
 
 -- ---- the devices, from the end of the order to its start
 module _ (m : ZXMachine) (c : ZXController) (core : Core) (floats : floating_bus_value c ≡ done (floating_bus (our_machine m) core)) where
-  pick_answer : (t : Bool) {x y : OrPanic ℕ} (u v : Answer) → x ≡ done (answered (our_machine m) u core) → y ≡ done (answered (our_machine m) v core)
+  pick_answer : (t : Bool) {x y : OrPanic ℕ} (u v : Option ℕ) → x ≡ done (answered (our_machine m) u core) → y ≡ done (answered (our_machine m) v core)
       → cond t x y ≡ done (answered (our_machine m) (cond t u v) core)
   pick_answer true u v p q = p
   pick_answer false u v p q = q
 
-  joystick_is : (j : Joystick) (port : ℕ) → kempston_read (joystick_gives j) port c ≡ done (answered (our_machine m) (with_joystick j port) core)
-  joystick_is joystick.Absent port = floats
-  joystick_is (joystick.Present byte) port = pick_answer (joystick_port port) (Value byte) Floating refl floats
+  joystick_is : (j : Device ℕ) (port : ℕ) → kempston_read (byte_gives j) port c ≡ done (answered (our_machine m) (with_joystick j port) core)
+  joystick_is Absent port = floats
+  joystick_is (Present byte) port = pick_answer (joystick_port port) (Some byte) None refl floats
 
-  ay_is : (a : Ay) → ay_read (ay_gives a) c ≡ done (answered (our_machine m) (ay_byte a) core)
-  ay_is ay.Absent = floats
-  ay_is (ay.Present byte) = refl
+  ay_is : (a : Device ℕ) → ay_read (byte_gives a) c ≡ done (answered (our_machine m) (ay_byte a) core)
+  ay_is Absent = floats
+  ay_is (Present byte) = refl
 
   rest_is : (d : Devices) (port : ℕ) → after_mouse (attached_of d) port c ≡ done (answered (our_machine m) (with_ay d.ay port (with_joystick d.joystick port)) core)
   rest_is d port = pick_answer (class_c000 port) (ay_byte d.ay) (with_joystick d.joystick port) (ay_is d.ay) (joystick_is d.joystick port)
 
-  mouse_is : (k : Mouse) (d : Devices) (port : ℕ)
+  mouse_is : (k : Device MousePorts) (d : Devices) (port : ℕ)
       → mouse_read (mouse_gives k) (attached_of d) port c ≡ done (answered (our_machine m) (with_mouse k port (with_ay d.ay port (with_joystick d.joystick port))) core)
-  mouse_is mouse.Absent d port = rest_is d port
-  mouse_is (mouse.Present ports) d port =
+  mouse_is Absent d port = rest_is d port
+  mouse_is (Present ports) d port =
       let rest = with_ay d.ay port (with_joystick d.joystick port) in
-      pick_answer (buttons_port port) (Value ports.buttons) (cond (x_port port) (Value ports.x) (cond (y_port port) (Value ports.y) rest)) refl
-      (pick_answer (x_port port) (Value ports.x) (cond (y_port port) (Value ports.y) rest) refl
-      (pick_answer (y_port port) (Value ports.y) rest refl (rest_is d port)))
+      pick_answer (buttons_port port) (Some ports.buttons) (cond (x_port port) (Some ports.x) (cond (y_port port) (Some ports.y) rest)) refl
+      (pick_answer (x_port port) (Some ports.x) (cond (y_port port) (Some ports.y) rest) refl
+      (pick_answer (y_port port) (Some ports.y) rest refl (rest_is d port)))
 
-  extender_is : (x : Extender) (d : Devices) (port : ℕ) → d.tape < 2
-      → extender_read (extender_gives x) (attached_of d) port c
-      ≡ done (answered (our_machine m) (with_extender x (cond (even_port port) (Value (keys_read d.rows d.tape port)) (with_mouse d.mouse port (with_ay d.ay port (with_joystick d.joystick port))))) core)
-  extender_is (extender.Present byte) d port h = refl
-  extender_is extender.Absent d port h =
+  extender_is : (x : Device ℕ) (d : Devices) (port : ℕ) → d.tape < 2
+      → extender_read (byte_gives x) (attached_of d) port c
+      ≡ done (answered (our_machine m) (with_extender x (cond (even_port port) (Some (keys_read d.rows d.tape port)) (with_mouse d.mouse port (with_ay d.ay port (with_joystick d.joystick port))))) core)
+  extender_is (Present byte) d port h = refl
+  extender_is Absent d port h =
       let rest = with_mouse d.mouse port (with_ay d.ay port (with_joystick d.joystick port)) in
       ap (λ (t : Bool). cond t (done (ula_read (attached_of d) port)) (mouse_read (mouse_gives d.mouse) (attached_of d) port c)) (port_is m port)
-      ∙ pick_answer (even_port port) (Value (keys_read d.rows d.tape port)) rest (ap done (keys_are d port h)) (mouse_is d.mouse d port)
+      ∙ pick_answer (even_port port) (Some (keys_read d.rows d.tape port)) rest (ap done (keys_are d port h)) (mouse_is d.mouse d port)
 
   -- The read order, whole: who answers, and with which byte.
   pub order_is : (d : Devices) (port : ℕ) → d.tape < 2 → extender_read (attached_of d).io_extender (attached_of d) port c ≡ done (answered (our_machine m) (read_order d port) core)

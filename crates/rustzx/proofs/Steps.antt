@@ -8,8 +8,8 @@ use native.Mathlib.Omega.{arith}
 use lib.Dec.{leb}
 use borrow.Author.Tests.{leb-true, le-leb}
 use Rattle.laws.proofs.Cases.{by_bool}
-use Rattle.machine.specs.declared.BorderPlace.{BorderPlace}
-use Rattle.machine.specs.declared.BorderPlace.TheVariants.{At, FrameEnd}
+use Rattle.machine.specs.declared.BorderPixel.{BorderPixel}
+use Rattle.std.specs.Prelude.{Option, Some, None}
 use Rattle.machine.specs.Numbers.{specs_of}
 use Rattle.machine.specs.Timing.{border_at, is_frame_end, frame_end}
 use Rattle.machine.proofs.Numbered.{regular}
@@ -129,17 +129,17 @@ wait_related m rom c w n r =
     (λ q. stepped rom c w n q (closes (our_machine c.machine) n w.core) refl) r
 
 -- after a border write the beam is blocked only at frame end, and with pairs 0
-inked_end : (place : BorderPlace) (k : ℕ) (e : Edge) → (e.blocked ≡ true → is_frame_end place ≡ true) → (inked place k e).blocked ≡ true → is_frame_end place ≡ true
+inked_end : (place : Option BorderPixel) (k : ℕ) (e : Edge) → (e.blocked ≡ true → is_frame_end place ≡ true) → (inked place k e).blocked ≡ true → is_frame_end place ≡ true
 unfolding inked inked_at
-inked_end (At line pixel) k e f =
+inked_end (Some p) k e f =
     by_bool (λ (x : Edge). x.blocked ≡ true → false ≡ true) e.blocked (λ b g. f g) (λ b g. g)
-inked_end FrameEnd k e f = λ g. refl
+inked_end None k e f = λ g. refl
 
-inked_none : (place : BorderPlace) (k : ℕ) (e : Edge) → (e.blocked ≡ true → e.pairs ≡ 0) → (inked place k e).blocked ≡ true → (inked place k e).pairs ≡ 0
+inked_none : (place : Option BorderPixel) (k : ℕ) (e : Edge) → (e.blocked ≡ true → e.pairs ≡ 0) → (inked place k e).blocked ≡ true → (inked place k e).pairs ≡ 0
 unfolding inked inked_at
-inked_none (At line pixel) k e f =
+inked_none (Some p) k e f =
     by_bool (λ (x : Edge). x.blocked ≡ true → x.pairs ≡ 0) e.blocked (λ b g. f g) (λ b g. absurd (false≢true g))
-inked_none FrameEnd k e f =
+inked_none None k e f =
     by_bool (λ (x : Edge). x.blocked ≡ true → x.pairs ≡ 0) e.blocked (λ b g. f g) (λ b g. refl)
 
 -- A BORDER WRITE: set_border_color at the frame clock, in a colour by its number.

@@ -10,12 +10,12 @@ use lib.Dec.{ltb, leb, eqb}
 use lib.ListN.{get_or}
 use lib.Bits.{and_mask}
 use borrow.Author.Tests.{ltb-true, ltb-false, le-leb, lt-leb}
-use Rattle.machine.specs.declared.BorderPlace.{BorderPlace}
-use Rattle.machine.specs.declared.BorderPlace.TheVariants.{At, FrameEnd}
+use Rattle.machine.specs.declared.BorderPixel.{BorderPixel}
+use Rattle.std.specs.Prelude.{Option, Some, None}
 use Rattle.machine.specs.declared.BlocksCount as ours
 use Rattle.machine.specs.declared.ZXSpecs as table
 use Rattle.machine.specs.Numbers.{specs_of}
-use Rattle.machine.specs.Timing.{pattern, delay, blocks_capped, blocks_from, blocks_at, border_capped, border_from, border_at, interrupt}
+use Rattle.machine.specs.Timing.{pattern, delay, blocks_capped, blocks_from, blocks_at, border_capped, border_from, pixel_at, border_at, interrupt}
 use Rattle.machine.specs.Contended.{bank_contended, port_contended}
 use Rattle.machine.proofs.Why.{number_is}
 use Rattle.rustzx.specs.Machine.{ZXSpecs, ZXMachine, Sinclair48K, Sinclair128K, specs, contention_clocks, port_is_contended, bank_is_contended}
@@ -81,17 +81,17 @@ blocks_are m t = blocks_by (specs_of (our_machine m)) t (specs m).clocks_ula_rea
 
 -- ---- border
 -- a place of the border as the Rust answers it: the frame's end is (0, 0) with the flag set
-abbrev pub next_of : BorderPlace → Next
-next_of (At line pixel) = record { line = line; pixel = pixel; frame_end = false }
-next_of FrameEnd = record { line = 0; pixel = 0; frame_end = true }
+abbrev pub next_of : Option BorderPixel → Next
+next_of (Some p) = record { line = p.line; pixel = p.pixel; frame_end = false }
+next_of None = record { line = 0; pixel = 0; frame_end = true }
 
-pick_next : (t : Bool) {x y : Next} (u v : BorderPlace) → x ≡ next_of u → y ≡ next_of v → cond t x y ≡ next_of (cond t u v)
+pick_next : (t : Bool) {x y : Next} (u v : Option BorderPixel) → x ≡ next_of u → y ≡ next_of v → cond t x y ≡ next_of (cond t u v)
 pick_next true u v p q = p
 pick_next false u v p q = q
 
 in_height_lem : (line pixel : ℕ) → in_height line pixel ≡ next_of (border_capped line pixel)
 unfolding border_capped
-in_height_lem line pixel = pick_next (leb 240 line) FrameEnd (At line pixel) refl refl
+in_height_lem line pixel = pick_next (leb 240 line) None (pixel_at line pixel) refl refl
 
 -- "pixel - 2 because we added 2": for an even pixel of at least 2, pixel - 2 >= 320 is pixel > 320
 width_test : (r : ℕ) (t : Bool) → ltb 320 (2 * (r + 1)) ≡ t → leb 320 ((r + 1) * 2 - 2) ≡ t
@@ -110,7 +110,7 @@ border_by : (o : table.ZXSpecs) (t origin line : ℕ) → origin ≡ o.border �
 unfolding border_at
 border_by o t origin line p q =
     rw (p, q)
-    (pick_next (ltb t o.border) (At 0 0) (border_from ((t - o.border) / o.line) (2 * ((t - o.border) % o.line + 1))) refl
+    (pick_next (ltb t o.border) (pixel_at 0 0) (border_from ((t - o.border) / o.line) (2 * ((t - o.border) % o.line + 1))) refl
     (in_width_lem ((t - o.border) / o.line) ((t - o.border) % o.line)))
 
 -- next_border_pixel answers the place of the border.

@@ -18,14 +18,9 @@ use Rattle.memory.specs.declared.Page.TheVariants as page
 use Rattle.memory.specs.Paging.{bit_set, memory_map, shown_page}
 use Rattle.memory.specs.Memory.{ram_page}
 use Rattle.ports.specs.declared.Devices.{Devices}
-use Rattle.ports.specs.declared.Extender.{Extender}
-use Rattle.ports.specs.declared.Extender.TheVariants as extender
-use Rattle.ports.specs.declared.Ay.{Ay}
-use Rattle.ports.specs.declared.Ay.TheVariants as ay
-use Rattle.ports.specs.declared.Joystick.{Joystick}
-use Rattle.ports.specs.declared.Joystick.TheVariants as joystick
-use Rattle.ports.specs.declared.Mouse as mouse
-use Rattle.ports.specs.declared.Mouse.TheVariants as mouses
+use Rattle.ports.specs.declared.Device.{Device}
+use Rattle.ports.specs.declared.Device.TheVariants.{Absent, Present}
+use Rattle.ports.specs.declared.MousePorts.{MousePorts}
 use Rattle.bus.specs.World.{Core, Screen, World}
 use Rattle.bus.specs.Time.{flash_on, shown_picture, hidden_picture}
 use Rattle.rustzx.specs.Panics.{Option, some, none}
@@ -65,21 +60,13 @@ abbrev pub our_attribute : ZXAttribute → attribute.ZXAttribute
 our_attribute a = record { ink = our_colour a.ink; paper = our_colour a.paper; brightness = our_brightness a.brightness; flash = a.flash }
 
 -- a call's devices, as the Rust finds them attached
-abbrev pub extender_gives : Extender → Option ℕ
-extender_gives extender.Absent = none
-extender_gives (extender.Present byte) = some byte
+abbrev pub byte_gives : Device ℕ → Option ℕ
+byte_gives Absent = none
+byte_gives (Present byte) = some byte
 
-abbrev pub ay_gives : Ay → Option ℕ
-ay_gives ay.Absent = none
-ay_gives (ay.Present byte) = some byte
-
-abbrev pub joystick_gives : Joystick → Option ℕ
-joystick_gives joystick.Absent = none
-joystick_gives (joystick.Present byte) = some byte
-
-abbrev pub mouse_gives : mouse.Mouse → Option Mouse
-mouse_gives mouses.Absent = none
-mouse_gives (mouses.Present ports) = some (record { buttons_port = ports.buttons; x_pos_port = ports.x; y_pos_port = ports.y })
+abbrev pub mouse_gives : Device MousePorts → Option Mouse
+mouse_gives Absent = none
+mouse_gives (Present ports) = some (record { buttons_port = ports.buttons; x_pos_port = ports.x; y_pos_port = ports.y })
 
 abbrev pub attached_of : Devices → Attached
 attached_of d =
@@ -88,9 +75,9 @@ attached_of d =
       keyboard_extended = take 8 (drop 8 d.rows);
       keyboard_sinclair = take 8 (drop 16 d.rows);
       current_bit = eqb d.tape 1;
-      io_extender = extender_gives d.extender;
-      ay = ay_gives d.ay;
-      kempston = joystick_gives d.joystick;
+      io_extender = byte_gives d.extender;
+      ay = byte_gives d.ay;
+      kempston = byte_gives d.joystick;
       mouse = mouse_gives d.mouse;
     }
 

@@ -81,8 +81,5 @@ module _ (b i p m : ℕ) (hm : m ≡ packed 1 0 (bits_of b)) (hi : i < 256) (hp 
   pub ink_lt : m * i < 2 ^ 64
   ink_lt = omega (arith, mixed_lt)
 
-  pub paper_lt : (full - m) * p < 2 ^ 64
-  paper_lt = omega (arith, mixed_lt)
-
   pub mixed_bytes : bytes_of 8 (m * i + (full - m) * p) ≡ picked i p (bits_of b)
   mixed_bytes = ap (bytes_of 8) mixed ∙ bytes_packed hi hp (bits_of b)

@@ -1,11 +1,9 @@
 -- Colours and attributes (01, Bus calls and Lent memory; names and numbers from the Rust's video/colors.rs).
 -- Assumes nothing.
-use Rattle.std.specs.Prelude.{ℕ, ◌/◌, ◌%◌, ◌^◌, Bool, cond, ◌&&◌, List, [], ◌∷◌, leb, eqb, get_or}
+use Rattle.std.specs.Prelude.{ℕ, ◌/◌, ◌%◌, ◌^◌, Bool, cond, ◌&&◌, List, [], ◌∷◌, leb, eqb, get_or, Option, Some, None}
 use Rattle.std.specs.Bool.{xor}
 use Rattle.screen.specs.declared.ZXColor.{ZXColor}
 use Rattle.screen.specs.declared.ZXColor.TheVariants.{Black, Blue, Red, Purple, Green, Cyan, Yellow, White}
-use Rattle.screen.specs.declared.Coloured.{Coloured}
-use Rattle.screen.specs.declared.Coloured.TheVariants.{Colour, OutOfRange}
 use Rattle.screen.specs.declared.ZXBrightness.{ZXBrightness}
 use Rattle.screen.specs.declared.ZXBrightness.TheVariants.{Normal, Bright}
 use Rattle.screen.specs.declared.ZXAttribute.{ZXAttribute}
@@ -30,8 +28,8 @@ colour_number Yellow = 6
 colour_number White = 7
 
 -- "`ZXColor::from_bits`"; a number above "colour 7" is out of range (refusal 8)
-abbrev pub from_bits : ℕ → Coloured
-from_bits n = cond (leb n 7) (Colour (colour_of n)) OutOfRange
+abbrev pub from_bits : ℕ → Option ZXColor
+from_bits n = cond (leb n 7) (Some (colour_of n)) None
 
 -- bit k of a number is 1
 abbrev pub bit : ℕ → ℕ → Bool

@@ -3,75 +3,152 @@
 // Where its definitions stand: nowhere; oracle/README.md has the table of records and lines.
 #![tactic(auto)]
 
-ghost use Rattle.std.specs.Prelude.{◌<◌};
-
-use std::io;
+use machine::ZXMachine;
+use std::fmt;
 
 // ---- records
 
-// An operation's letter, and three numbers that it may take.
+// An operation: how it is played, and which it is of that kind.
+#[derive(Clone, Copy)]
+pub enum Op {
+    Start,
+    Timed(Timed),
+    Change(Change),
+    Ask(Ask),
+}
+
+// A timed call.
+#[derive(Clone, Copy)]
+pub enum Timed {
+    WaitInternal,
+    WaitMreq,
+    WaitNoMreq,
+    ReadIo,
+    WriteIo,
+}
+
+// A call that changes the record, the devices or the memory, and no picture.
+#[derive(Clone, Copy)]
+pub enum Change {
+    Device,
+    WriteInternal,
+    Write7ffd,
+    ResetFrames,
+    LoadPage,
+    FillRom,
+}
+
+// A call that only answers.
+#[derive(Clone, Copy)]
+pub enum Ask {
+    Read7ffd,
+    IntActive,
+    FramesCount,
+    ReadInternal,
+    RamPage,
+    Block,
+    ShownPicture,
+    StillPicture,
+    Clock,
+    Digests,
+    Helper(Helper),
+}
+
+// A call that works out a number, of no machine.
+#[derive(Clone, Copy)]
+pub enum Helper {
+    BitmapLineAddr,
+    BitmapLineRel,
+    BitmapColRel,
+    AttrRowRel,
+    AttrColRel,
+    ColorFromBits,
+}
+
+// By its letter. Any other letter asks for a colour from bits.
+impl From<u8> for Op {
+    fn from(letter: u8) -> Op {
+        match letter {
+            b'S' => Op::Start,
+            b'N' => Op::Timed(Timed::WaitInternal),
+            b'M' => Op::Timed(Timed::WaitMreq),
+            b'O' => Op::Timed(Timed::WaitNoMreq),
+            b'I' => Op::Timed(Timed::ReadIo),
+            b'W' => Op::Timed(Timed::WriteIo),
+            b'D' => Op::Change(Change::Device),
+            b'P' => Op::Change(Change::WriteInternal),
+            b'7' => Op::Change(Change::Write7ffd),
+            b'Z' => Op::Change(Change::ResetFrames),
+            b'L' => Op::Change(Change::LoadPage),
+            b'R' => Op::Change(Change::FillRom),
+            b'8' => Op::Ask(Ask::Read7ffd),
+            b'T' => Op::Ask(Ask::IntActive),
+            b'F' => Op::Ask(Ask::FramesCount),
+            b'G' => Op::Ask(Ask::ReadInternal),
+            b'Q' => Op::Ask(Ask::RamPage),
+            b'B' => Op::Ask(Ask::Block),
+            b'V' => Op::Ask(Ask::ShownPicture),
+            b'K' => Op::Ask(Ask::StillPicture),
+            b'C' => Op::Ask(Ask::Clock),
+            b'H' => Op::Ask(Ask::Digests),
+            b'a' => Op::Ask(Ask::Helper(Helper::BitmapLineAddr)),
+            b'b' => Op::Ask(Ask::Helper(Helper::BitmapLineRel)),
+            b'c' => Op::Ask(Ask::Helper(Helper::BitmapColRel)),
+            b'd' => Op::Ask(Ask::Helper(Helper::AttrRowRel)),
+            b'e' => Op::Ask(Ask::Helper(Helper::AttrColRel)),
+            _ => Op::Ask(Ask::Helper(Helper::ColorFromBits)),
+        }
+    }
+}
+
+// An operation, and three numbers that it may take.
 #[derive(Clone, Copy)]
 pub struct Call {
-    pub op: u8,
+    pub op: Op,
     pub x: u8,
     pub y: u16,
     pub z: u32,
 }
 
-fn word(low: u8, high: u8) -> u16 {
-    low as u16 + 256 * high as u16
-}
-
-fn long(b0: u8, b1: u8, b2: u8, b3: u8) -> u32 {
-    b0 as u32 + 256 * b1 as u32 + 65536 * b2 as u32 + 16777216 * b3 as u32
-}
-
-pub fn call_of(bytes: &[u8; 8]) -> Call {
-    Call {
-        op: bytes[0],
-        x: bytes[1],
-        y: word(bytes[2], bytes[3]),
-        z: long(bytes[4], bytes[5], bytes[6], bytes[7]),
+impl From<[u8; 8]> for Call {
+    fn from(bytes: [u8; 8]) -> Call {
+        let [letter, x, y0, y1, z0, z1, z2, z3] = bytes;
+        Call {
+            op: Op::from(letter),
+            x,
+            y: u16::from_le_bytes([y0, y1]),
+            z: u32::from_le_bytes([z0, z1, z2, z3]),
+        }
     }
 }
 
-// Which of four functions plays an operation.
-pub fn kind(op: u8) -> u8 {
-    match op {
-        b'S' => 0,
-        b'N' | b'M' | b'O' | b'I' | b'W' => 1,
-        b'D' | b'P' | b'7' | b'Z' | b'L' | b'R' => 2,
-        _ => 3,
+impl Call {
+    // The machine on which it is played: a start's own, else that of the state record.
+    pub fn machine(self, state: &[u8]) -> ZXMachine {
+        match self.op {
+            Op::Start => record::machine_from((self.z % 256) as u8),
+            _ => record::machine_from(byte_at(state, 5)),
+        }
     }
 }
 
 // ---- numbers that both sides work out
 
-fn wide(x: u32) -> u64
-    ensures { result < 4294967296 }
-{
-    x as u64
-}
-
 // One byte more of a digest: FNV-1a of 32 bits.
 fn digest_byte(sum: u32, byte: u8) -> u32 {
-    let mixed = wide(sum ^ byte as u32);
+    let mixed = u64::from(sum ^ u32::from(byte));
     (mixed * 16777619 % 4294967296) as u32
 }
 
 pub fn digest(bytes: &[u8]) -> u32 {
-    let mut sum: u32 = 2166136261;
-    let mut i = 0;
-    while i < bytes.len() {
-        sum = digest_byte(sum, bytes[i]);
-        i += 1;
-    }
-    sum
+    bytes
+        .iter()
+        .fold(2166136261, |sum, &byte| digest_byte(sum, byte))
 }
 
 // The next number of the generator that fills pages.
 fn next(seed: u32) -> u32 {
-    ((wide(seed) * 1664525 + 1013904223) % 4294967296) as u32
+    ((u64::from(seed) * 1664525 + 1013904223) % 4294967296) as u32
 }
 
 fn top_byte(n: u32) -> u8 {
@@ -81,166 +158,142 @@ fn top_byte(n: u32) -> u8 {
 // Each byte is the top byte of the generator's next number.
 pub fn fill(bytes: &mut [u8], seed: u32) {
     let mut state = seed;
-    let mut i = 0;
-    while i < bytes.len() {
+    for byte in bytes.iter_mut() {
         state = next(state);
-        bytes[i] = top_byte(state);
-        i += 1;
+        *byte = top_byte(state);
     }
 }
 
 // ---- lines
 
-fn put(rt: &impl Print, byte: u8) -> io::Result<()> {
-    rt.write_all(&[byte])
+// What a call answers that is accepted.
+#[derive(Clone, Copy)]
+pub enum Line {
+    Done,
+    Number(u32),
+    Timed {
+        value: u8,
+        closed: u8,
+        interrupt: u8,
+        clocks: u32,
+        blocks: u16,
+    },
+    Clock {
+        clock: u32,
+        border: u8,
+    },
+    Digests {
+        a: u32,
+        b: u32,
+        border: u32,
+        ram: u32,
+    },
 }
 
-fn field(rt: &impl Print, n: u32) -> io::Result<()> {
-    put(rt, b' ')?;
-    rt.print(n)
-}
-
-fn field_byte(rt: &impl Print, b: u8) -> io::Result<()> {
-    field(rt, b as u32)
-}
-
-fn end_line(rt: &impl Print) -> io::Result<()> {
-    put(rt, b'\n')
-}
-
-pub fn say_done(rt: &impl Print, refusal: u8) -> io::Result<()> {
-    if refusal == 0 {
-        rt.write_all(b"-\n")
-    } else {
-        rt.write_all(b"refused")?;
-        field(rt, refusal as u32)?;
-        end_line(rt)
+impl fmt::Display for Line {
+    fn fmt<W: fmt::Write>(&self, f: &mut fmt::Formatter<W>) -> fmt::Result {
+        match *self {
+            Line::Done => write!(f, "-"),
+            Line::Number(n) => write!(f, "{n}"),
+            Line::Timed {
+                value,
+                closed,
+                interrupt,
+                clocks,
+                blocks,
+            } => { write!(f, "{value} {closed} {interrupt} {clocks} {blocks}") }
+            Line::Clock { clock, border } => write!(f, "{clock} {border}"),
+            Line::Digests { a, b, border, ram } => write!(f, "{a} {b} {border} {ram}"),
+        }
     }
 }
 
-pub fn say_number(rt: &impl Print, n: u32) -> io::Result<()> {
-    rt.print(n)?;
-    end_line(rt)
-}
+// A call that is refused, with its number.
+#[derive(Clone, Copy, Debug)]
+pub struct Refused(pub u8);
 
-pub fn say_told(rt: &impl Print, refusal: u8, answer: &[u8; 5]) -> io::Result<()> {
-    if refusal == 0 {
-        say_number(rt, long(answer[1], answer[2], answer[3], answer[4]))
-    } else {
-        say_done(rt, refusal)
+impl fmt::Display for Refused {
+    fn fmt<W: fmt::Write>(&self, f: &mut fmt::Formatter<W>) -> fmt::Result {
+        let number = self.0;
+        write!(f, "refused {number}")
     }
 }
 
-pub fn say_timed(rt: &impl Print, refusal: u8, value: u8, answer: &[u8; 10]) -> io::Result<()> {
-    if refusal == 0 {
-        rt.print(value)?;
-        field_byte(rt, answer[2])?;
-        field_byte(rt, answer[3])?;
-        field(rt, long(answer[4], answer[5], answer[6], answer[7]))?;
-        field(rt, word(answer[8], answer[9]) as u32)?;
-        end_line(rt)
+// What a call's number says: 0 is no refusal.
+pub fn accepted(number: u8) -> Result<(), Refused> {
+    if number == 0 {
+        Ok(())
     } else {
-        say_done(rt, refusal)
+        Err(Refused(number))
     }
 }
 
-pub fn say_clock(rt: &impl Print, state: &[u8]) -> io::Result<()> {
-    let clock = long(
-        byte_at(state, 6),
-        byte_at(state, 7),
-        byte_at(state, 8),
-        byte_at(state, 9),
-    );
-    rt.print(clock)?;
-    field(rt, byte_at(state, 18) as u32)?;
-    end_line(rt)
+// The number that an accepted call answers in its five bytes.
+pub fn number_line(answer: [u8; 5]) -> Line {
+    let [_, n0, n1, n2, n3] = answer;
+    Line::Number(u32::from_le_bytes([n0, n1, n2, n3]))
 }
 
-pub fn say_digests(
-    rt: &impl Print,
-    ram: &[u8],
-    a: &[u8],
-    b: &[u8],
-    border: &[u8],
-) -> io::Result<()> {
-    rt.print(digest(a))?;
-    field(rt, digest(b))?;
-    field(rt, digest(border))?;
-    field(rt, digest(ram))?;
-    end_line(rt)
+// What an accepted timed call answers in its ten bytes, behind the value that its line begins with.
+pub fn timed_line(value: u8, answer: [u8; 10]) -> Line {
+    let [_, _, closed, interrupt, c0, c1, c2, c3, b0, b1] = answer;
+    Line::Timed {
+        value,
+        closed,
+        interrupt,
+        clocks: u32::from_le_bytes([c0, c1, c2, c3]),
+        blocks: u16::from_le_bytes([b0, b1]),
+    }
 }
 
 // ---- the state record and the devices, seen from outside
 
 pub fn byte_at(bytes: &[u8], i: usize) -> u8 {
-    if i < bytes.len() { bytes[i] } else { 0 }
+    bytes.get(i).copied().unwrap_or(0)
 }
 
-pub fn machine_of(call: Call, state: &[u8]) -> u8 {
-    if call.op == b'S' {
-        (call.z % 256) as u8
-    } else {
-        byte_at(state, 5)
+pub fn clock_line(state: &[u8]) -> Line {
+    Line::Clock {
+        clock: u32::from_le_bytes([
+            byte_at(state, 6),
+            byte_at(state, 7),
+            byte_at(state, 8),
+            byte_at(state, 9),
+        ]),
+        border: byte_at(state, 18),
     }
-}
-
-pub fn ram_bytes(machine: u8) -> usize {
-    if machine == 0 { 49152 } else { 131072 }
-}
-
-pub fn rom_bytes(machine: u8) -> usize {
-    if machine == 0 { 16384 } else { 32768 }
 }
 
 // The original's writes answer no code. What is seen of one from outside: with no AY its two classes do nothing, and neither does a locked
 // write; a page write of the byte that stands shows nothing.
 pub fn seen(code: u8, ay: u8, before: u8, after: u8) -> u8 {
-    if (code == 2) | (code == 3) {
-        if ay == 0 { 0 } else { code }
-    } else if code == 5 {
-        if before == after { 0 } else { 5 }
-    } else if code == 6 {
-        0
-    } else {
-        code
-    }
-}
-
-// What a timed call's line begins with: its value, or what is seen of a port write.
-pub fn value_seen(op: u8, value: u8, ay: u8, before: u8, after: u8) -> u8 {
-    if op == b'W' {
-        seen(value, ay, before, after)
-    } else {
-        value
+    match code {
+        2 | 3 if ay == 0 => 0,
+        5 if before == after => 0,
+        6 => 0,
+        _ => code,
     }
 }
 
 // A byte of the device record after a start: no key is down, the tape bit is 1, and no device is there but the AY, if the start says so.
 fn fresh_device(i: usize, ay: u8) -> u8 {
-    if i < 24 {
-        255
-    } else if i == 24 {
-        1
-    } else if i == 27 {
-        ay
-    } else {
-        0
+    match i {
+        0..=23 => 255,
+        24 => 1,
+        27 => ay,
+        _ => 0,
     }
 }
 
 pub fn no_devices(devices: &mut [u8], ay: u8) {
-    let mut i = 0;
-    while i < devices.len() {
-        devices[i] = fresh_device(i, ay);
-        i += 1;
+    for (i, device) in devices.iter_mut().enumerate() {
+        *device = fresh_device(i, ay);
     }
 }
 
-pub fn set_device(rt: &impl Print, call: Call, devices: &mut [u8]) -> io::Result<()> {
-    let i = call.x as usize;
-    if devices.len() <= i {
-        return Ok(());
-    }
-    devices[i] = (call.z % 256) as u8;
-    say_done(rt, 0)
+// Sets a byte of the device record, if it has that byte.
+pub fn set_device(call: Call, devices: &mut [u8]) -> Option<Line> {
+    let device = devices.get_mut(usize::from(call.x))?;
+    *device = (call.z % 256) as u8;
+    Some(Line::Done)
 }

@@ -15,6 +15,7 @@ ghost use Rattle.bus.specs.Calls.{plain_wait};
 ghost use Rattle.steps.specs.Turned.{turn_of, screen_of, edge_in, beam_in, beamed, look_to, next_frame, Ready};
 
 use border::Beam;
+use memory::Map;
 use record::Bus;
 
 // The state of the bus during a call, and what the call has to report so far.
@@ -63,6 +64,7 @@ pub fn with_beam(bus: Bus, beam: Beam) -> Bus
 
 // The hidden picture takes the blocks from the painted count up to a position; how many they are. A step that has none to paint ends at the
 // first test.
+#[tactic(auto, using(paint::proofs::Painting::paint_none, crate::proofs::CodeStep::shown_within), unfolding(bus::specs::Time::caught_up))]
 fn catch_up(bus: Bus, position: u32, ram: &[u8], a: &mut [u8], b: &mut [u8]) -> u32
     requires { (position ≤ 6144) × (length ram.now ≡ (specs_of bus.machine).ram) × (length a.old ≡ 49152) × (length b.old ≡ 49152) }
     ensures { (result ≡ position - bus.painted) × (screen_of position a.new b.new
@@ -73,7 +75,7 @@ fn catch_up(bus: Bus, position: u32, ram: &[u8], a: &mut [u8], b: &mut [u8]) -> 
     if to <= from {
         return 0;
     }
-    let start = 16384 * memory::screen_bank(bus.machine, bus.paging) as usize;
+    let start = 16384 * Map::from(bus).screen_bank() as usize;
     let flash = (1 <= bus.phase) & (bus.phase <= 16);
     if bus.phase % 2 == 0 {
         paint::paint_ram(ram, start, b, from, to, flash) as u32
@@ -83,6 +85,7 @@ fn catch_up(bus: Bus, position: u32, ram: &[u8], a: &mut [u8], b: &mut [u8]) -> 
 }
 
 // A frame's closing at a clock of the next one.
+#[tactic(auto, unfolding(border::specs::Edge::finished))]
 fn close_frame(bus: Bus, clock: u32, border: &mut [u8]) -> Bus
     requires { HasRoom bus.passed × (bus.phase < 32) × (length border.old ≡ border_length) }
     ensures { (result ≡ next_frame bus clock) × (border.new ≡ (finished (edge_in bus border.old)).pixels) }
@@ -100,6 +103,7 @@ fn close_frame(bus: Bus, clock: u32, border: &mut [u8]) -> Bus
 // The step: n clocks are added, the screen is caught up, and at or past the frame's end one frame is taken off and closed.
 // Kept: the four lent slices stay four arguments. Behind `&mut` of a struct of them the caller does not learn what its own slices hold at the end
 // (a callee may put others into it), and by value the fields of such a struct have no names in an `ensures`.
+#[tactic(auto, using(crate::proofs::CodeStep::tick_on, crate::proofs::CodeStep::tick_over, machine::proofs::Bounds::position_small), unfolding(bus::specs::Time::caught_up, border::specs::Edge::finished))]
 pub fn stepped(
     t: Turning,
     n: u32,
@@ -153,6 +157,7 @@ pub fn step(turn: &mut Turning, n: u32, ram: &[u8], a: &mut [u8], b: &mut [u8], 
 }
 
 // The plain wait: one step. It lends a record of its own to `step`, so that its callers go by value.
+#[tactic(auto, unfolding(bus::specs::Turns::ran))]
 pub fn wait_internal(
     t: Turning,
     n: u32,

@@ -12,10 +12,8 @@ use Rattle.record.specs.declared.Bus.{Bus}
 use Rattle.record.specs.Record.{held_by}
 use Rattle.record.proofs.Soundness.{sound_facts}
 use Rattle.record.proofs.Round.{held_sound}
-use Rattle.screen.specs.declared.Helped.{Helped}
-use Rattle.screen.specs.declared.Helped.TheVariants as helped
-use Rattle.screen.specs.declared.Coloured.{Coloured}
-use Rattle.screen.specs.declared.Coloured.TheVariants as coloured
+use Rattle.std.specs.Prelude.{Option, Some, None}
+use Rattle.screen.specs.declared.ZXColor.{ZXColor}
 use Rattle.screen.specs.Address.{line_address, line_at, column_at, attribute_row, attribute_column}
 use Rattle.screen.specs.Colour as color
 use Rattle.bus.proofs.Kept.{SoundWorld}
@@ -31,10 +29,10 @@ use Rattle.rustzx.proofs.Helpers.{as_run, line_address_is, line_rel_is, col_rel_
 use Rattle.rustzx.proofs.EveryState.{rust_of, every_machine, every_state}
 use Rattle.surface.specs.Same.{SameLent, SameHelp}
 
-helped_same : (h : Helped) (answer : List ℕ) → length answer ≡ 5 → SameHelp (as_run h) (helper_call h answer)
+helped_same : (h : Option ℕ) (answer : List ℕ) → length answer ≡ 5 → SameHelp (as_run h) (helper_call h answer)
 unfolding helper_call
-helped_same (helped.Number n) answer e = let l = eq-eqb (length answer) 5 e in rw l (refl, refl)
-helped_same helped.OutOfRange answer e = let l = eq-eqb (length answer) 5 e in rw l refl
+helped_same (Some n) answer e = let l = eq-eqb (length answer) 5 e in rw l (refl, refl)
+helped_same None answer e = let l = eq-eqb (length answer) 5 e in rw l refl
 
 module _ (n : ℕ) (answer : List ℕ) (long : length answer ≡ 5) where
   pub line_addr_same : SameHelp (rust.bitmap_line_addr n) (ulb.bitmap_line_addr n answer)
@@ -52,9 +50,9 @@ module _ (n : ℕ) (answer : List ℕ) (long : length answer ≡ 5) where
   pub attr_col_same : SameHelp (rust.attr_col_rel n) (ulb.attr_col_rel n answer)
   attr_col_same = rw (attr_col_is n) (helped_same (attribute_column n) answer long)
 
-  by_coloured : (c : Coloured) → on_done (coloured_run c) (λ x. done (color_byte x)) ≡ as_run (colour_helped c)
-  by_coloured (coloured.Colour c) = ap done (colour_number_lem c)
-  by_coloured coloured.OutOfRange = refl
+  by_coloured : (c : Option ZXColor) → on_done (coloured_run c) (λ x. done (color_byte x)) ≡ as_run (colour_helped c)
+  by_coloured (Some c) = ap done (colour_number_lem c)
+  by_coloured None = refl
 
   -- from_bits, its colour by its number
   pub from_bits_same : SameHelp (on_done (from_bits n) (λ x. done (color_byte x))) (ulb.color_from_bits n answer)

@@ -1,9 +1,10 @@
 -- Each way out of a timed call, over plain values, and what an accepted one may ask of the bus.
 -- Assumes nothing.
 use Prim.Native.Nat.{ℕ, ◌+◌, ◌*◌, ◌<◌, ◌≤◌}
-use mathlib.Core.Path.{◌≡◌, sym, ap, ap₂, subst, ◌∙◌}
+use mathlib.Core.Path.{◌≡◌, ap, ap₂, ◌∙◌}
 use mathlib.Core.List.{List}
 use native.Mathlib.Omega.{arith}
+use borrow.Author.Rules.{rules}
 use lib.ListN.{length}
 use Rattle.std.specs.Prelude.{Result, Ok, Err}
 use Rattle.machine.specs.declared.ZXMachine.{ZXMachine}
@@ -36,20 +37,8 @@ module _ (bus : Bus) (begun : Turning) (ram a b border : List ℕ) (starts : tur
       → steps ≤ 10 → clocks ≤ 65541 → Ready (turn_of begun ram a b border) steps clocks
   ready_fresh answer steps clocks f s room k n =
       let long = frame_long bus.machine in
-      subst (λ (t : Turn). Ready t steps clocks) (sym starts)
-      (record {
-        ram_fits = f.ram_is;
-        a_fits = f.a_is;
-        b_fits = f.b_is;
-        border_fits = f.border_is;
-        phase_fits = s.phase;
-        in_frame = s.clock;
-        in_place = s.painted;
-        short = omega arith;
-        time = time_fits bus.machine bus.passed bus.clock clocks room s.clock n;
-        clocks_fit = omega arith;
-        blocks_fit = omega arith;
-      })
+      let time = time_fits bus.machine bus.passed bus.clock clocks room s.clock n in
+      rw starts (search rules)
 
   -- what each call asks: a plain wait one step of its clocks, a wait at an address two with a delay, a port call two
   pub ready_plain : (state : List ℕ) (clocks answer : ℕ) → ReadyWait state (length ram) (length a) (length b) (length border) clocks answer bus

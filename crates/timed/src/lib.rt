@@ -15,8 +15,7 @@ fn tell(t: Turning, value: u8, answer: &mut [u8])
     requires { length answer.old ≡ timed_length }
     ensures { answer.new ≡ timed_answer value t.closed (interrupt t.bus.clock) t.clocks t.blocks }
 {
-    let bus = t.bus;
-    let interrupt = machine::int_active(bus.clock);
+    let interrupt = machine::int_active(t.bus.clock);
     judgement::fill_timed(answer, value, t.closed, interrupt, t.clocks, t.blocks);
 }
 
@@ -26,8 +25,7 @@ pub fn finish(t: Turning, value: u8, state: &mut [u8], answer: &mut [u8]) -> u8
     ensures { (result ≡ 0) × (state.new ≡ record_bytes t.bus)
         × (answer.new ≡ timed_answer value t.closed (interrupt t.bus.clock) t.clocks t.blocks) }
 {
-    let next = t.bus;
-    record::encode(state, next);
+    record::encode(state, t.bus);
     tell(t, value, answer);
     0
 }
@@ -42,8 +40,7 @@ pub fn finish_step(t: Turning, value: u8, state: &mut [u8], answer: &mut [u8]) -
     if t.closed {
         return finish(t, value, state, answer);
     }
-    let next = t.bus;
-    record::advance(state, next.clock, next.painted);
+    record::advance(state, t.bus.clock, t.bus.painted);
     tell(t, value, answer);
     0
 }

@@ -8,23 +8,19 @@ ghost use Rattle.contracts.specs.Plain.{told};
 ghost use Rattle.contracts.specs.Helpers.{colour_helped, helper_call, bitmap_line_addr, bitmap_line_rel, bitmap_col_rel, attr_row_rel, attr_col_rel, color_from_bits};
 
 use judgement::Refusal;
-use screen::{Coloured, Helped, ZXColor};
+use screen::ZXColor;
 
 // The answer's length is judged before the helper's number.
-fn help(h: Helped, answer: &mut [u8]) -> u8
-    ensures { told result answer.new ≡ helper_call h answer.old }
+fn help(helped: Option<u32>, answer: &mut [u8]) -> u8
+    ensures { told result answer.new ≡ helper_call helped answer.old }
 {
     if answer.len() == judgement::NUMBER_LENGTH {
-        match h {
-            Helped::Number(n) => {
+        match helped {
+            Some(n) => {
                 judgement::fill_number(answer, n);
                 0
             }
-            Helped::OutOfRange => judgement::refuse(
-                answer,
-                judgement::NUMBER_LENGTH,
-                Refusal::BadNumber,
-            ),
+            None => judgement::refuse(answer, judgement::NUMBER_LENGTH, Refusal::BadNumber),
         }
     } else {
         u8::from(Refusal::BadLength)
@@ -67,19 +63,15 @@ pub extern "C" fn ulb_attr_col_rel(addr: u32, answer: &mut [u8]) -> u8
 }
 
 // A colour is given by its number.
-fn colour_helped(c: Coloured) -> Helped
-    ensures { result ≡ colour_helped c }
+fn colour_helped(colour: Option<ZXColor>) -> Option<u32>
+    ensures { result ≡ colour_helped colour }
 {
-    match c {
-        Coloured::Colour(colour) => Helped::Number(colour.bits() as u32),
-        Coloured::OutOfRange => Helped::OutOfRange,
-    }
+    colour.map(|c| u32::from(c.bits()))
 }
 
 #[unsafe(no_mangle)]
 pub extern "C" fn ulb_color_from_bits(bits: u32, answer: &mut [u8]) -> u8
     ensures { told result answer.new ≡ color_from_bits bits answer.old }
 {
-    let helped = colour_helped(ZXColor::from_bits(bits));
-    help(helped, answer)
+    help(colour_helped(ZXColor::from_bits(bits)), answer)
 }

@@ -6,7 +6,7 @@
 ghost use Rattle.std.specs.Prelude.{◌≡◌};
 ghost use Rattle.contracts.specs.Plain.{told, changed, read_internal, load_page, ram_page_told, block_told, ram_page_part, block_part};
 
-use memory::Page;
+use memory::{Map, Page};
 
 // Byte read.
 #[unsafe(no_mangle)]
@@ -22,8 +22,7 @@ pub extern "C" fn ulb_read_internal(
     match judgement::judge_read(state, rom.len(), ram.len(), answer.len()) {
         Err(e) => judgement::refuse(answer, judgement::NUMBER_LENGTH, e),
         Ok(bus) => {
-            let m = bus.machine;
-            let value = memory::read(m, bus.paging, rom, ram, addr);
+            let value = Map::from(bus).read(rom, ram, addr);
             judgement::fill_number(answer, value as u32);
             0
         }
@@ -73,9 +72,8 @@ pub extern "C" fn ulb_block(
     match judgement::judge_block(state, rom.len(), ram.len(), block, answer.len()) {
         Err(e) => judgement::refuse(answer, judgement::NUMBER_LENGTH, e),
         Ok(bus) => {
-            let m = bus.machine;
-            let page = memory::get_bank_type(m, bus.paging, block);
-            let start = memory::part_start(m, page);
+            let page = Map::from(bus).get_bank_type(block);
+            let start = memory::part_start(bus.machine, page);
             judgement::fill_number(answer, start);
             0
         }
@@ -99,8 +97,7 @@ pub fn block<'a>(state: &[u8], rom: &'a [u8], ram: &'a [u8], block: u32) -> &'a 
     match judgement::judge_block(state, rom.len(), ram.len(), block, judgement::NUMBER_LENGTH) {
         Err(_) => &rom[..0],
         Ok(bus) => {
-            let m = bus.machine;
-            let page = memory::get_bank_type(m, bus.paging, block);
+            let page = Map::from(bus).get_bank_type(block);
             memory::page_data(page, rom, ram)
         }
     }

@@ -8,6 +8,7 @@ ghost use Rattle.bus.specs.Time.{shows_a};
 ghost use Rattle.contracts.specs.Plain.{told, changed, shown_told, still_picture, shown_part};
 ghost use Rattle.machine.specs.Limits.{picture_length};
 
+use memory::Map;
 
 #[unsafe(no_mangle)]
 pub extern "C" fn ulb_shown_picture(state: &[u8], a: &[u8], b: &[u8], answer: &mut [u8]) -> u8
@@ -52,8 +53,7 @@ pub extern "C" fn ulb_still_picture(state: &[u8], ram: &[u8], picture: &mut [u8]
     match judgement::judge_still(state, ram.len(), picture.len(), flash) {
         Err(e) => u8::from(e),
         Ok(bus) => {
-            let m = bus.machine;
-            let shown = memory::screen_bank(m, bus.paging);
+            let shown = Map::from(bus).screen_bank();
             let page = memory::ram_page_data(ram, shown as u32);
             paint::still(page, picture, flash == 1);
             0

@@ -36,7 +36,7 @@ pub extern "C" fn ulb_read_io(
         Err(e) => judgement::refuse(answer, judgement::TIMED_LENGTH, e),
         Ok(held) => {
             let begun = steps::begun(held);
-            let devices = ports::devices_from(devices);
+            let devices = ports::devices_from(devices.try_into().unwrap());
             let read = calls::read_io(begun, devices, port, ram, a, b, border);
             let turn = read.turn;
             timed::finish_step(turn, read.value, state, answer)

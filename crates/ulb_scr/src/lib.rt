@@ -6,6 +6,7 @@
 ghost use Rattle.std.specs.Prelude.{◌≡◌};
 ghost use Rattle.contracts.specs.Plain.{changed, save_scr, load_scr};
 
+use memory::Map;
 
 // The shown page's bitmap and attributes, into a file of 6,912 bytes.
 #[unsafe(no_mangle)]
@@ -15,8 +16,7 @@ pub extern "C" fn ulb_save_scr(state: &[u8], ram: &[u8], file: &mut [u8]) -> u8
     match judgement::judge_save_scr(state, ram.len(), file.len()) {
         Err(e) => u8::from(e),
         Ok(bus) => {
-            let m = bus.machine;
-            let page = memory::screen_bank(m, bus.paging);
+            let page = Map::from(bus).screen_bank();
             memory::save_screen(ram, page, file);
             0
         }

@@ -6,6 +6,7 @@
 ghost use Rattle.std.specs.Prelude.{◌≡◌};
 ghost use Rattle.contracts.specs.Plain.{told, changed, repaged, write7ffd_call, read7ffd, int_active, frames_count, reset_frames};
 
+use memory::Map;
 use record::Bus;
 
 // The 7FFD write: it takes no time, and nothing is caught up.
@@ -16,10 +17,9 @@ pub extern "C" fn ulb_write_7ffd(state: &mut [u8], value: u8, answer: &mut [u8])
     match judgement::judge_told(state, answer.len()) {
         Err(e) => judgement::refuse(answer, judgement::NUMBER_LENGTH, e),
         Ok(bus) => {
-            let m = bus.machine;
-            let paged = memory::write_7ffd(m, bus.paging, value);
-            let code = memory::paged_code(paged);
-            let paging = memory::paging_after(paged, bus.paging);
+            let paged = Map::from(bus).write_7ffd(value);
+            let code = paged.code();
+            let paging = paged.paging_after(bus.paging);
             record::encode(state, Bus { paging, ..bus });
             judgement::fill_number(answer, code as u32);
             0

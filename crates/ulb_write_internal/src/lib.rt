@@ -6,6 +6,7 @@
 ghost use Rattle.std.specs.Prelude.{◌≡◌};
 ghost use Rattle.contracts.specs.Plain.{changed, write_internal};
 
+use memory::Map;
 
 // Byte write.
 #[unsafe(no_mangle)]
@@ -15,8 +16,7 @@ pub extern "C" fn ulb_write_internal(state: &[u8], ram: &mut [u8], addr: u16, va
     match judgement::judge_write(state, ram.len()) {
         Err(e) => u8::from(e),
         Ok(bus) => {
-            let m = bus.machine;
-            memory::write(m, bus.paging, ram, addr, value);
+            Map::from(bus).write(ram, addr, value);
             0
         }
     }

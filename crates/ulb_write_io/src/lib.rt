@@ -37,7 +37,7 @@ pub extern "C" fn ulb_write_io(
         Err(cause) => judgement::refuse(answer, judgement::TIMED_LENGTH, cause),
         Ok(held) => {
             let begun = steps::begun(held);
-            let devices = ports::devices_from(devices);
+            let devices = ports::devices_from(devices.try_into().unwrap());
             let written = calls::write_io(begun, devices, port, value, ram, a, b, border);
             let turn = written.turn;
             timed::finish(turn, written.value, state, answer)

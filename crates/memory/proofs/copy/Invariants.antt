@@ -1,8 +1,5 @@
-use Rattle.std.proofs.Common.{length, ◌≡◌, ℕ, ◌≤◌, ◌<◌, slice_index_or, ◌-◌}
+use Rattle.std.proofs.Common.{◌≡◌, ℕ, ◌<◌, slice_index_or}
 use Rattle.memory.proofs.copy.Given as goal
 
 abbrev pub invariant-loop-i : goal.invariant-loop-i
-invariant-loop-i l = (l.i ≤ length l.src) × ((k : ℕ) → k < l.i → slice_index_or l.dst k 0 ≡ slice_index_or l.src k 0)
-
-abbrev pub decreases-loop-i : goal.decreases-loop-i
-decreases-loop-i l = length l.src - l.i
+invariant-loop-i l = (k : ℕ) → k < l.i → slice_index_or l.dst k 0 ≡ slice_index_or l.src k 0

@@ -16,4 +16,4 @@ unfolding packed
 right = same coded (λ b. packed 1 0 (bits_of b)) 256 tt
 
 pub returns : goal.returns
-returns c = right c.args.byte c.ranges.byte.fits
+returns c = rw c.from-b.ensures (right c.args.byte c.ranges.byte.fits)

@@ -9,7 +9,7 @@ use Rattle.ulb_memory.proofs.block.Goals as goal
 pub page_data-requires : goal.page_data-requires
 page_data-requires c =
     let r = ready_block _ _ _ _ _ _ (sym c.judge_block.ensures ∙ c.in-Ok.is) in
-    block_holds _ r c.get_bank_type-page.ensures
+    block_holds _ r (rw c.from.ensures at c.get_bank_type-page.ensures)
 
 pub returns-in-Err : goal.returns-in-Err
 unfolding block_part
@@ -19,4 +19,4 @@ pub returns-in-Ok : goal.returns-in-Ok
 unfolding block_part
 returns-in-Ok c =
     part_accepted _ _ c.judge_block.ensures _ _ _ c.in-Ok.is
-    (rw (c.page_data.ensures, c.get_bank_type-page.ensures))
+    (rw (c.page_data.ensures, c.get_bank_type-page.ensures, c.from.ensures))

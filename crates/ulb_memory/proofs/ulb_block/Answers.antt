@@ -19,4 +19,4 @@ pub returns-in-Ok : goal.returns-in-Ok
 unfolding block_told
 returns-in-Ok c =
     told_accepted _ _ c.judge_block.ensures _ _ _ _ _ c.in-Ok.is c.fill_number.ensures
-    (rw (c.part_start-start.ensures, c.get_bank_type-page.ensures))
+    (rw (c.part_start-start.ensures, c.get_bank_type-page.ensures, c.from.ensures))

@@ -9,7 +9,7 @@ use Rattle.ulb_memory.proofs.ulb_read_internal.Goals as goal
 pub read-value-requires : goal.read-value-requires
 read-value-requires c =
     let r = ready_read _ _ _ _ _ (sym c.judge_read.ensures ∙ c.in-Ok.is) in
-    (r.rom_is, r.ram_is)
+    rw c.from.ensures (r.rom_is, r.ram_is)
 
 pub fill_number-requires : goal.fill_number-requires
 fill_number-requires c = (ready_read _ _ _ _ _ (sym c.judge_read.ensures ∙ c.in-Ok.is)).answer_is
@@ -23,4 +23,4 @@ pub returns-in-Ok : goal.returns-in-Ok
 unfolding read_internal
 returns-in-Ok c =
     told_accepted _ _ c.judge_read.ensures _ _ _ _ _ c.in-Ok.is c.fill_number.ensures
-    c.read-value.ensures
+    (rw c.from.ensures at c.read-value.ensures)

@@ -4,13 +4,16 @@
 use native.Mathlib.Omega.{arith}
 use Rattle.judgement.proofs.Accepted.{ready_port, accepted_bytes}
 use Rattle.timed.proofs.Moved.{port_step, step_bytes}
-use mathlib.Core.Path.{sym, ◌∙◌}
+use mathlib.Core.Path.{sym, ap, ◌∙◌}
+use Rattle.ports.specs.Devices.{devices_of}
 use Rattle.contracts.specs.Timed.{lent, read_io}
 use Rattle.timed.proofs.Timing.{ready_io, timed_refused, timed_accepted}
 use Rattle.ulb_read_io.proofs.ulb_read_io.Goals as goal
 
-pub devices_from-devices-requires : goal.devices_from-devices-requires
-devices_from-devices-requires c = let g = c.args in (ready_port g.state.now _ g.devices.now _ _ _ _ _ (sym c.judge_port.ensures ∙ c.in-Ok.is)).devices_is
+pub unwrap-requires : goal.unwrap-requires
+unwrap-requires c =
+    let g = c.args in
+    c.try_into.ensures.0 (ready_port g.state.now _ g.devices.now _ _ _ _ _ (sym c.judge_port.ensures ∙ c.in-Ok.is)).devices_is
 
 pub read_io-read-requires : goal.read_io-read-requires
 read_io-read-requires c =
@@ -38,6 +41,7 @@ pub returns-in-Ok : goal.returns-in-Ok
 unfolding read_io
 returns-in-Ok c =
     let g = c.args in
-    let e = c.devices_from-devices.ensures in
+    let chunk = rw c.unwrap.ensures at c.try_into.ensures.1 in
+    let e = c.devices_from-devices.ensures ∙ ap devices_of chunk.same in
     let io = c.read_io-read.ensures in
     timed_accepted _ _ c.judge_port.ensures _ _ (lent g.state.now g.ram.now g.a.now g.b.now g.border.now) g.answer.now _ _ _ _ _ _ _ _ _ _ c.in-Ok.is (c.begun-begun.ensures _ _ _ _) io.0 (rw e at io.1) c.finish_step.ensures

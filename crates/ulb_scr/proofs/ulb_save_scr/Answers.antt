@@ -9,7 +9,7 @@ use Rattle.ulb_scr.proofs.ulb_save_scr.Goals as goal
 pub save_screen-requires : goal.save_screen-requires
 save_screen-requires c =
     let r = ready_save_scr _ _ _ _ (sym c.judge_save_scr.ensures ∙ c.in-Ok.is) in
-    (r.file_is, shown_fits _ r.on_record r.ram_is c.screen_bank-page.ensures)
+    (r.file_is, shown_fits _ r.on_record r.ram_is (rw c.from.ensures at c.screen_bank-page.ensures))
 
 pub returns-in-Err : goal.returns-in-Err
 unfolding save_scr
@@ -20,4 +20,4 @@ pub returns-in-Ok : goal.returns-in-Ok
 unfolding save_scr
 returns-in-Ok c =
     changed_accepted _ _ c.judge_save_scr.ensures _ _ _ _ c.in-Ok.is
-    (rw (c.save_screen.ensures, c.screen_bank-page.ensures))
+    (rw (c.save_screen.ensures, c.screen_bank-page.ensures, c.from.ensures))

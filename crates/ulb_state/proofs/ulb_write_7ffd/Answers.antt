@@ -21,5 +21,5 @@ pub returns-in-Ok : goal.returns-in-Ok
 unfolding write7ffd_call
 returns-in-Ok c =
     repaged_accepted _ _ c.judge_told.ensures _ _ _ _ _ _ _ _ _ _ c.in-Ok.is
-    c.write_7ffd-paged.ensures c.paged_code-code.ensures c.paging_after-paging.ensures
+    (rw c.from.ensures at c.write_7ffd-paged.ensures) c.code-code.ensures c.paging_after-paging.ensures
     refl c.encode.ensures c.fill_number.ensures

@@ -7,7 +7,7 @@ use Rattle.judgement.proofs.Accepted.{ready_write}
 use Rattle.ulb_write_internal.proofs.ulb_write_internal.Goals as goal
 
 pub write-requires : goal.write-requires
-write-requires c = (ready_write _ _ _ (sym c.judge_write.ensures ∙ c.in-Ok.is)).ram_is
+write-requires c = rw c.from.ensures (ready_write _ _ _ (sym c.judge_write.ensures ∙ c.in-Ok.is)).ram_is
 
 pub returns-in-Err : goal.returns-in-Err
 unfolding write_internal
@@ -18,4 +18,4 @@ pub returns-in-Ok : goal.returns-in-Ok
 unfolding write_internal
 returns-in-Ok c =
     changed_accepted _ _ c.judge_write.ensures _ _ _ _ c.in-Ok.is
-    c.write.ensures
+    (rw c.from.ensures at c.write.ensures)

@@ -1,14 +1,17 @@
 -- Refused: only the answer is written. Accepted: the record is sound and has room, so the bus can run the call; it ends with the record and the
 -- answer of the turn that it reached.
 -- Assumes nothing.
-use mathlib.Core.Path.{sym, ◌∙◌}
+use mathlib.Core.Path.{sym, ap, ◌∙◌}
 use Rattle.judgement.proofs.Accepted.{ready_port}
+use Rattle.ports.specs.Devices.{devices_of}
 use Rattle.contracts.specs.Timed.{lent, write_io}
 use Rattle.timed.proofs.Timing.{ready_io, timed_refused, timed_accepted}
 use Rattle.ulb_write_io.proofs.ulb_write_io.Goals as goal
 
-pub devices_from-devices-requires : goal.devices_from-devices-requires
-devices_from-devices-requires c = let g = c.args in (ready_port g.state.now _ g.devices.now _ _ _ _ _ (sym c.judge_port.ensures ∙ c.in-Ok.is)).devices_is
+pub unwrap-requires : goal.unwrap-requires
+unwrap-requires c =
+    let g = c.args in
+    c.try_into.ensures.0 (ready_port g.state.now _ g.devices.now _ _ _ _ _ (sym c.judge_port.ensures ∙ c.in-Ok.is)).devices_is
 
 pub write_io-written-requires : goal.write_io-written-requires
 write_io-written-requires c =
@@ -32,6 +35,7 @@ pub returns-in-Ok : goal.returns-in-Ok
 unfolding write_io
 returns-in-Ok c =
     let g = c.args in
-    let e = c.devices_from-devices.ensures in
+    let chunk = rw c.unwrap.ensures at c.try_into.ensures.1 in
+    let e = c.devices_from-devices.ensures ∙ ap devices_of chunk.same in
     let io = c.write_io-written.ensures in
     timed_accepted _ _ c.judge_port.ensures _ _ (lent g.state.now g.ram.now g.a.now g.b.now g.border.now) g.answer.now _ _ _ _ _ _ _ _ _ _ c.in-Ok.is (c.begun-begun.ensures _ _ _ _) (rw e at io.0) (rw e at io.1) c.finish.ensures
