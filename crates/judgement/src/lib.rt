@@ -206,7 +206,8 @@ pub fn judge_port(
 // The record, and a number to give.
 #[tactic(auto, unfolding(crate::specs::Judges::judge_told, crate::specs::Refusals::judged))]
 pub fn judge_told(state: &[u8], answer: usize) -> Result<Bus, Refusal>
-    ensures { result ≡ judge_told state.now answer }
+    ensures verdict { result ≡ judge_told state.now answer }
+    ensures answer { IfOk result (λ bus. answer ≡ number_length) }
 {
     let bus = record::look(state)?;
     first_cause(
@@ -220,7 +221,8 @@ pub fn judge_told(state: &[u8], answer: usize) -> Result<Bus, Refusal>
 
 #[tactic(auto, unfolding(crate::specs::Judges::judge_read, crate::specs::Refusals::judged))]
 pub fn judge_read(state: &[u8], rom: usize, ram: usize, answer: usize) -> Result<Bus, Refusal>
-    ensures { result ≡ judge_read state.now rom ram answer }
+    ensures verdict { result ≡ judge_read state.now rom ram answer }
+    ensures answer { IfOk result (λ bus. answer ≡ number_length) }
 {
     let bus = record::look(state)?;
     let fit = rom_fits(bus, rom) & ram_fits(bus, ram) & (answer == NUMBER_LENGTH);
@@ -272,7 +274,8 @@ pub fn judge_load(state: &[u8], ram: usize, bytes: usize, page: u32) -> Result<B
 // Of the three that hand back a part a Rattle caller lends no answer, and gives the length that fits.
 #[tactic(auto, unfolding(crate::specs::Judges::judge_ram_page, crate::specs::Refusals::judged))]
 pub fn judge_ram_page(state: &[u8], ram: usize, page: u32, answer: usize) -> Result<Bus, Refusal>
-    ensures { result ≡ judge_ram_page state.now ram page (number_fits answer) }
+    ensures verdict { result ≡ judge_ram_page state.now ram page (number_fits answer) }
+    ensures answer { IfOk result (λ bus. answer ≡ number_length) }
 {
     let bus = record::look(state)?;
     let fit = ram_fits(bus, ram) & (answer == NUMBER_LENGTH);
@@ -294,7 +297,8 @@ pub fn judge_block(
     block: u32,
     answer: usize,
 ) -> Result<Bus, Refusal>
-    ensures { result ≡ judge_block state.now rom ram block (number_fits answer) }
+    ensures verdict { result ≡ judge_block state.now rom ram block (number_fits answer) }
+    ensures answer { IfOk result (λ bus. answer ≡ number_length) }
 {
     let bus = record::look(state)?;
     let fit = rom_fits(bus, rom) & ram_fits(bus, ram) & (answer == NUMBER_LENGTH);
@@ -310,7 +314,8 @@ pub fn judge_block(
 
 #[tactic(auto, unfolding(crate::specs::Judges::judge_shown, crate::specs::Refusals::judged))]
 pub fn judge_shown(state: &[u8], a: usize, b: usize, answer: usize) -> Result<Bus, Refusal>
-    ensures { result ≡ judge_shown state.now a b (number_fits answer) }
+    ensures verdict { result ≡ judge_shown state.now a b (number_fits answer) }
+    ensures answer { IfOk result (λ bus. answer ≡ number_length) }
 {
     let bus = record::look(state)?;
     let fit = (a == machine::PICTURE_LENGTH)
