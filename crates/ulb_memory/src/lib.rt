@@ -9,6 +9,7 @@ ghost use Rattle.contracts.specs.Plain.{told, changed, read_internal, load_page,
 use memory::{Map, Page};
 
 // Byte read.
+#[tactic(auto, unfolding(contracts::specs::Plain::read_internal))]
 #[unsafe(no_mangle)]
 pub extern "C" fn ulb_read_internal(
     state: &[u8],
@@ -23,13 +24,13 @@ pub extern "C" fn ulb_read_internal(
         Err(e) => judgement::refuse(answer, judgement::NUMBER_LENGTH, e),
         Ok(bus) => {
             let value = Map::from(bus).read(rom, ram, addr);
-            judgement::fill_number(answer, value as u32);
-            0
+            judgement::tell(answer, Ok(u32::from(value)))
         }
     }
 }
 
 // Page load: 16,384 lent bytes into a RAM page.
+#[tactic(auto, unfolding(contracts::specs::Plain::load_page))]
 #[unsafe(no_mangle)]
 pub extern "C" fn ulb_load_page(state: &[u8], ram: &mut [u8], src: &[u8], page: u32) -> u8
     ensures { changed result ram.new ≡ load_page state.now ram.old src.now page }
@@ -43,6 +44,7 @@ pub extern "C" fn ulb_load_page(state: &[u8], ram: &mut [u8], src: &[u8], page: 
     }
 }
 
+#[tactic(auto, unfolding(contracts::specs::Plain::ram_page_told))]
 #[unsafe(no_mangle)]
 pub extern "C" fn ulb_ram_page(state: &[u8], ram: &[u8], page: u32, answer: &mut [u8]) -> u8
     ensures { told result answer.new ≡ ram_page_told state.now ram.now page answer.old }
@@ -50,15 +52,13 @@ pub extern "C" fn ulb_ram_page(state: &[u8], ram: &[u8], page: u32, answer: &mut
     match judgement::judge_ram_page(state, ram.len(), page, answer.len()) {
         Err(e) => judgement::refuse(answer, judgement::NUMBER_LENGTH, e),
         Ok(bus) => {
-            let m = bus.machine;
-            let number = page as u8;
-            let start = memory::part_start(m, Page::Ram(number));
-            judgement::fill_number(answer, start);
-            0
+            let start = memory::part_start(bus.machine, Page::Ram(page as u8));
+            judgement::tell(answer, Ok(start))
         }
     }
 }
 
+#[tactic(auto, unfolding(contracts::specs::Plain::block_told))]
 #[unsafe(no_mangle)]
 pub extern "C" fn ulb_block(
     state: &[u8],
@@ -69,18 +69,14 @@ pub extern "C" fn ulb_block(
 ) -> u8
     ensures { told result answer.new ≡ block_told state.now rom.now ram.now block answer.old }
 {
-    match judgement::judge_block(state, rom.len(), ram.len(), block, answer.len()) {
-        Err(e) => judgement::refuse(answer, judgement::NUMBER_LENGTH, e),
-        Ok(bus) => {
-            let page = Map::from(bus).get_bank_type(block);
-            let start = memory::part_start(bus.machine, page);
-            judgement::fill_number(answer, start);
-            0
-        }
-    }
+    let number = judgement::judge_block(state, rom.len(), ram.len(), block, answer.len()).map(
+        |bus| memory::part_start(bus.machine, Map::from(bus).get_bank_type(block)),
+    );
+    judgement::tell(answer, number)
 }
 
 // A RAM page by its number; an empty part where the call is refused.
+#[tactic(auto, unfolding(contracts::specs::Plain::ram_page_part))]
 pub fn ram_page<'a>(state: &[u8], ram: &'a [u8], page: u32) -> &'a [u8]
     ensures { result.now ≡ ram_page_part state.now ram.now page }
 {
@@ -91,6 +87,7 @@ pub fn ram_page<'a>(state: &[u8], ram: &'a [u8], page: u32) -> &'a [u8]
 }
 
 // The 16 KiB at a block, as a part of the lent ROM or RAM.
+#[tactic(auto, unfolding(contracts::specs::Plain::block_part))]
 pub fn block<'a>(state: &[u8], rom: &'a [u8], ram: &'a [u8], block: u32) -> &'a [u8]
     ensures { result.now ≡ block_part state.now rom.now ram.now block }
 {

@@ -10,18 +10,15 @@ ghost use Rattle.machine.specs.Limits.{picture_length};
 
 use memory::Map;
 
+#[tactic(auto, unfolding(contracts::specs::Plain::shown_told))]
 #[unsafe(no_mangle)]
 pub extern "C" fn ulb_shown_picture(state: &[u8], a: &[u8], b: &[u8], answer: &mut [u8]) -> u8
     ensures { told result answer.new ≡ shown_told state.now a.now b.now answer.old }
 {
-    match judgement::judge_shown(state, a.len(), b.len(), answer.len()) {
-        Err(e) => judgement::refuse(answer, judgement::NUMBER_LENGTH, e),
-        Ok(bus) => {
-            let start = shown_start(bus.phase);
-            judgement::fill_number(answer, start);
-            0
-        }
-    }
+    let number = judgement::judge_shown(state, a.len(), b.len(), answer.len()).map(
+        |bus| shown_start(bus.phase),
+    );
+    judgement::tell(answer, number)
 }
 
 // A is shown in even phases, and B, which is counted after A, in odd ones.
@@ -36,6 +33,7 @@ fn shown_start(phase: u8) -> u32
 }
 
 // The shown picture, of the two lent ones.
+#[tactic(auto, unfolding(contracts::specs::Plain::shown_part))]
 pub fn shown_picture<'a>(state: &[u8], a: &'a [u8], b: &'a [u8]) -> &'a [u8]
     ensures { result.now ≡ shown_part state.now a.now b.now }
 {
@@ -46,6 +44,7 @@ pub fn shown_picture<'a>(state: &[u8], a: &'a [u8], b: &'a [u8]) -> &'a [u8]
 }
 
 // The still picture, of the page that the screen now shows.
+#[tactic(auto, unfolding(contracts::specs::Plain::still_picture))]
 #[unsafe(no_mangle)]
 pub extern "C" fn ulb_still_picture(state: &[u8], ram: &[u8], picture: &mut [u8], flash: u32) -> u8
     ensures { changed result picture.new ≡ still_picture state.now ram.now picture.old flash }

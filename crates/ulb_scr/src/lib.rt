@@ -9,6 +9,7 @@ ghost use Rattle.contracts.specs.Plain.{changed, save_scr, load_scr};
 use memory::Map;
 
 // The shown page's bitmap and attributes, into a file of 6,912 bytes.
+#[tactic(auto, unfolding(contracts::specs::Plain::save_scr))]
 #[unsafe(no_mangle)]
 pub extern "C" fn ulb_save_scr(state: &[u8], ram: &[u8], file: &mut [u8]) -> u8
     ensures { changed result file.new ≡ save_scr state.now ram.now file.old }
@@ -24,6 +25,7 @@ pub extern "C" fn ulb_save_scr(state: &[u8], ram: &[u8], file: &mut [u8]) -> u8
 }
 
 // A file's 6,912 bytes, into the front of a video page.
+#[tactic(auto, unfolding(contracts::specs::Plain::load_scr))]
 #[unsafe(no_mangle)]
 pub extern "C" fn ulb_load_scr(state: &[u8], ram: &mut [u8], file: &[u8], page: u32) -> u8
     ensures { changed result ram.new ≡ load_scr state.now ram.old file.now page }

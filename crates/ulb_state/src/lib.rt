@@ -10,6 +10,7 @@ use memory::Map;
 use record::Bus;
 
 // The 7FFD write: it takes no time, and nothing is caught up.
+#[tactic(auto, unfolding(contracts::specs::Plain::write7ffd_call))]
 #[unsafe(no_mangle)]
 pub extern "C" fn ulb_write_7ffd(state: &mut [u8], value: u8, answer: &mut [u8]) -> u8
     ensures { repaged result state.new answer.new ≡ write7ffd_call state.old value answer.old }
@@ -21,24 +22,19 @@ pub extern "C" fn ulb_write_7ffd(state: &mut [u8], value: u8, answer: &mut [u8])
             let code = paged.code();
             let paging = paged.paging_after(bus.paging);
             record::encode(state, Bus { paging, ..bus });
-            judgement::fill_number(answer, code as u32);
-            0
+            judgement::tell(answer, Ok(u32::from(code)))
         }
     }
 }
 
 // The last 7FFD byte.
+#[tactic(auto, unfolding(contracts::specs::Plain::read7ffd))]
 #[unsafe(no_mangle)]
 pub extern "C" fn ulb_read_7ffd(state: &[u8], answer: &mut [u8]) -> u8
     ensures { told result answer.new ≡ read7ffd state.now answer.old }
 {
-    match judgement::judge_told(state, answer.len()) {
-        Err(e) => judgement::refuse(answer, judgement::NUMBER_LENGTH, e),
-        Ok(bus) => {
-            judgement::fill_number(answer, bus.paging as u32);
-            0
-        }
-    }
+    let number = judgement::judge_told(state, answer.len()).map(|bus| u32::from(bus.paging));
+    judgement::tell(answer, number)
 }
 
 #[tactic(auto, unfolding(contracts::specs::Plain::int_active))]
@@ -46,31 +42,24 @@ pub extern "C" fn ulb_read_7ffd(state: &[u8], answer: &mut [u8]) -> u8
 pub extern "C" fn ulb_int_active(state: &[u8], answer: &mut [u8]) -> u8
     ensures { told result answer.new ≡ int_active state.now answer.old }
 {
-    match judgement::judge_told(state, answer.len()) {
-        Err(e) => judgement::refuse(answer, judgement::NUMBER_LENGTH, e),
-        Ok(bus) => {
-            let on = u8::from(machine::int_active(bus.clock));
-            judgement::fill_number(answer, on as u32);
-            0
-        }
-    }
+    let number = judgement::judge_told(state, answer.len()).map(|bus| u32::from(machine::int_active(
+        bus.clock,
+    )));
+    judgement::tell(answer, number)
 }
 
 // Passed frames.
+#[tactic(auto, unfolding(contracts::specs::Plain::frames_count))]
 #[unsafe(no_mangle)]
 pub extern "C" fn ulb_frames_count(state: &[u8], answer: &mut [u8]) -> u8
     ensures { told result answer.new ≡ frames_count state.now answer.old }
 {
-    match judgement::judge_told(state, answer.len()) {
-        Err(e) => judgement::refuse(answer, judgement::NUMBER_LENGTH, e),
-        Ok(bus) => {
-            judgement::fill_number(answer, bus.passed);
-            0
-        }
-    }
+    let number = judgement::judge_told(state, answer.len()).map(|bus| bus.passed);
+    judgement::tell(answer, number)
 }
 
 // Passed frames go back to 0; the phase, which times flash and pictures, stays.
+#[tactic(auto, unfolding(contracts::specs::Plain::reset_frames))]
 #[unsafe(no_mangle)]
 pub extern "C" fn ulb_reset_frame_counter(state: &mut [u8]) -> u8
     ensures { changed result state.new ≡ reset_frames state.old }

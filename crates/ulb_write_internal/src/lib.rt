@@ -9,6 +9,7 @@ ghost use Rattle.contracts.specs.Plain.{changed, write_internal};
 use memory::Map;
 
 // Byte write.
+#[tactic(auto, unfolding(contracts::specs::Plain::write_internal))]
 #[unsafe(no_mangle)]
 pub extern "C" fn ulb_write_internal(state: &[u8], ram: &mut [u8], addr: u16, value: u8) -> u8
     ensures { changed result ram.new ≡ write_internal state.now ram.old addr value }
