@@ -22,7 +22,6 @@ use Rattle.machine.proofs.Why.{by_why}
 use Rattle.machine.proofs.Bounds.{delay_small, blocks_small, Within, border_within}
 use Rattle.beam.specs.declared.Question.{Question}
 use Rattle.beam.specs.declared.Question.TheVariants.{Beam, Held}
-use Rattle.std.specs.Prelude.{Option, Some, None}
 use Rattle.beam.specs.declared.Asked.{Asked}
 use Rattle.beam.specs.Decimal.{decimal}
 use Rattle.beam.specs.Meaning.{asked, model, line_text, line_meaning, lines_of}

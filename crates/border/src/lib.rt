@@ -40,6 +40,7 @@ fn fill(border: &mut [u8], from: usize, to: usize, colour: u8)
 }
 
 // A border write at a clock: what the beam has passed is painted in the old colour, and it goes on in the new one.
+// Kept: the length is asked, since C lends slices. An array lent from a slice was tried: what the slice holds afterwards is not proved.
 #[tactic(auto, unfolding(crate::specs::Edge::inked, crate::specs::Edge::inked_at))]
 pub fn set_border(
     beam: Beam,

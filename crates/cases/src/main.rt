@@ -11,78 +11,106 @@ use std::io;
 
 const RAM_48K: usize = 49152;
 
-fn say(rt: &impl Print, what: &[u8], number: u8) -> io::Result<()> {
-    rt.write_all(what)?;
-    rt.print(number)?;
-    rt.write_all(b"\n")
+// All that is lent to the calls.
+#[derive(Drop)]
+struct Board {
+    state: [u8; LENGTH],
+    devices: [u8; DEVICES_LENGTH],
+    ram: [u8; RAM_48K],
+    a: [u8; PICTURE_LENGTH],
+    b: [u8; PICTURE_LENGTH],
+    border: [u8; BORDER_LENGTH],
+    // That of the last timed call.
+    answer: [u8; TIMED_LENGTH],
 }
 
-// Attribute 47h gives pixels 15 and 8: block 0 is painted at clock 14,338, into B.
-fn pixels(
-    rt: &impl Print,
-    state: &mut [u8; LENGTH],
-    ram: &mut [u8; RAM_48K],
-    a: &mut [u8; PICTURE_LENGTH],
-    b: &mut [u8; PICTURE_LENGTH],
-    border: &mut [u8; BORDER_LENGTH],
-) -> io::Result<()> {
-    let mut answer = [0u8; TIMED_LENGTH];
-    ulb_start::ulb_start(state, ram, a, b, border, 0);
-    ulb_write_internal::ulb_write_internal(state, ram, 0x4000, 0x80);
-    ulb_write_internal::ulb_write_internal(state, ram, 0x5800, 0x47);
-    ulb_wait_internal::ulb_wait_internal(state, ram, a, b, border, 14338, &mut answer);
-    say(rt, b"attribute 47h, bit set: pixel ", b[0])?;
-    say(rt, b"attribute 47h, bit clear: pixel ", b[1])
-}
+impl Board {
+    fn start(&mut self) {
+        let state = &mut self.state;
+        let ram = &mut self.ram;
+        let a = &mut self.a;
+        let b = &mut self.b;
+        let border = &mut self.border;
+        ulb_start::ulb_start(state, ram, a, b, border, 0);
+    }
 
-// Port FFFEh with no row selected gives FFh, or BFh with tape bit 0.
-fn port(
-    rt: &impl Print,
-    state: &mut [u8; LENGTH],
-    ram: &mut [u8; RAM_48K],
-    a: &mut [u8; PICTURE_LENGTH],
-    b: &mut [u8; PICTURE_LENGTH],
-    border: &mut [u8; BORDER_LENGTH],
-) -> io::Result<()> {
-    let mut answer = [0u8; TIMED_LENGTH];
-    let mut devices = [0u8; DEVICES_LENGTH];
-    devices[24] = 1;
-    ulb_read_io::ulb_read_io(state, &devices, ram, a, b, border, 0xFFFE, &mut answer);
-    say(rt, b"port FFFEh, tape bit 1: ", answer[1])?;
-    devices[24] = 0;
-    ulb_read_io::ulb_read_io(state, &devices, ram, a, b, border, 0xFFFE, &mut answer);
-    say(rt, b"port FFFEh, tape bit 0: ", answer[1])
-}
+    fn write(&mut self, address: u16, byte: u8) {
+        let state = &self.state;
+        let ram = &mut self.ram;
+        ulb_write_internal::ulb_write_internal(state, ram, address, byte);
+    }
 
-// Wait 65,535 accepted, 65,536 refused; clock 69,887 plus 1 closes the frame, plus 0 does not.
-fn waits(
-    rt: &impl Print,
-    state: &mut [u8; LENGTH],
-    ram: &mut [u8; RAM_48K],
-    a: &mut [u8; PICTURE_LENGTH],
-    b: &mut [u8; PICTURE_LENGTH],
-    border: &mut [u8; BORDER_LENGTH],
-) -> io::Result<()> {
-    let mut answer = [0u8; TIMED_LENGTH];
-    ulb_start::ulb_start(state, ram, a, b, border, 0);
-    let long = ulb_wait_internal::ulb_wait_internal(state, ram, a, b, border, 65535, &mut answer);
-    say(rt, b"wait 65,535: refusal ", long)?;
-    let longer = ulb_wait_internal::ulb_wait_internal(state, ram, a, b, border, 65536, &mut answer);
-    say(rt, b"wait 65,536: refusal ", longer)?;
-    ulb_wait_internal::ulb_wait_internal(state, ram, a, b, border, 4352, &mut answer);
-    ulb_wait_internal::ulb_wait_internal(state, ram, a, b, border, 0, &mut answer);
-    say(rt, b"clock 69,887 plus 0: closed ", answer[2])?;
-    ulb_wait_internal::ulb_wait_internal(state, ram, a, b, border, 1, &mut answer);
-    say(rt, b"clock 69,887 plus 1: closed ", answer[2])
+    // Its refusal.
+    fn wait(&mut self, clocks: u32) -> u8 {
+        let state = &mut self.state;
+        let ram = &self.ram;
+        let a = &mut self.a;
+        let b = &mut self.b;
+        let border = &mut self.border;
+        let answer = &mut self.answer;
+        ulb_wait_internal::ulb_wait_internal(state, ram, a, b, border, clocks, answer)
+    }
+
+    // The byte that is read.
+    fn read_port(&mut self, port: u16) -> u8 {
+        let state = &mut self.state;
+        let devices = &self.devices;
+        let ram = &self.ram;
+        let a = &mut self.a;
+        let b = &mut self.b;
+        let border = &mut self.border;
+        let answer = &mut self.answer;
+        ulb_read_io::ulb_read_io(state, devices, ram, a, b, border, port, answer);
+        answer[1]
+    }
+
+    // Whether the last timed call closed the frame.
+    fn closed(&self) -> u8 {
+        self.answer[2]
+    }
+
+    // Attribute 47h gives pixels 15 and 8: block 0 is painted at clock 14,338, into B.
+    fn pixels(&mut self, rt: &impl Print) -> io::Result<()> {
+        self.start();
+        self.write(0x4000, 0x80);
+        self.write(0x5800, 0x47);
+        self.wait(14338);
+        println!(rt; "attribute 47h, bit set: pixel {}", self.b[0])?;
+        println!(rt; "attribute 47h, bit clear: pixel {}", self.b[1])
+    }
+
+    // Port FFFEh with no row selected gives FFh, or BFh with tape bit 0.
+    fn port(&mut self, rt: &impl Print) -> io::Result<()> {
+        self.devices[24] = 1;
+        println!(rt; "port FFFEh, tape bit 1: {}", self.read_port(0xFFFE))?;
+        self.devices[24] = 0;
+        println!(rt; "port FFFEh, tape bit 0: {}", self.read_port(0xFFFE))
+    }
+
+    // Wait 65,535 accepted, 65,536 refused; clock 69,887 plus 1 closes the frame, plus 0 does not.
+    fn waits(&mut self, rt: &impl Print) -> io::Result<()> {
+        self.start();
+        println!(rt; "wait 65,535: refusal {}", self.wait(65535))?;
+        println!(rt; "wait 65,536: refusal {}", self.wait(65536))?;
+        self.wait(4352);
+        self.wait(0);
+        println!(rt; "clock 69,887 plus 0: closed {}", self.closed())?;
+        self.wait(1);
+        println!(rt; "clock 69,887 plus 1: closed {}", self.closed())
+    }
 }
 
 fn main(rt: HostRuntime) -> io::Result<()> {
-    let mut state = [0u8; LENGTH];
-    let mut ram = [0u8; RAM_48K];
-    let mut a = [0u8; PICTURE_LENGTH];
-    let mut b = [0u8; PICTURE_LENGTH];
-    let mut border = [0u8; BORDER_LENGTH];
-    pixels(&rt, &mut state, &mut ram, &mut a, &mut b, &mut border)?;
-    port(&rt, &mut state, &mut ram, &mut a, &mut b, &mut border)?;
-    waits(&rt, &mut state, &mut ram, &mut a, &mut b, &mut border)
+    let mut board = Board {
+        state: [0; LENGTH],
+        devices: [0; DEVICES_LENGTH],
+        ram: [0; RAM_48K],
+        a: [0; PICTURE_LENGTH],
+        b: [0; PICTURE_LENGTH],
+        border: [0; BORDER_LENGTH],
+        answer: [0; TIMED_LENGTH],
+    };
+    board.pixels(&rt)?;
+    board.port(&rt)?;
+    board.waits(&rt)
 }

@@ -9,6 +9,7 @@ ghost use Rattle.judgement.specs.Judges.{number_fits, ram_fits, rom_fits, lent_f
 ghost use Rattle.judgement.specs.Answers.{timed_length, timed_answer, number_length, number_answer, refused_answer, told_code, told_answer};
 
 use machine::ZXMachine;
+use memory::Map;
 use record::{BadRecord, Bus};
 
 // Bytes of a timed call's answer, and of another call's with a number to give.
@@ -395,12 +396,11 @@ pub fn judge_save_sna(
 {
     let bus = record::look(state)?;
     let fit = ram_fits(bus, ram) & (registers == snapshot::REGISTERS_LENGTH);
-    let due = snapshot::due_size(bus.machine, bus.paging);
     first_cause(
         bus,
         Causes {
             length: !fit,
-            size: file != due,
+            size: file != snapshot::due_size(Map::from(bus)),
             ..Causes::default()
         },
     )

@@ -11,7 +11,6 @@ use lib.ListN.{length, take, get_or, length-take}
 use lib.Seq.{ext_get_or, get_or-take}
 use Rattle.laws.proofs.Cases.{split, and_left, and_right}
 use Rattle.machine.specs.declared.ZXMachine.{ZXMachine}
-use Rattle.ports.specs.declared.Device.{Device}
 use Rattle.ports.specs.declared.Device.TheVariants.{Absent, Present}
 use Rattle.ports.specs.declared.MousePorts.{MousePorts}
 use Rattle.ports.specs.declared.Devices.{Devices}

@@ -6,7 +6,7 @@
 ghost use Rattle.std.specs.Prelude.{◌≡◌, ◌+◌, ◌<◌, length, cond};
 ghost use Rattle.machine.specs.Numbers.{specs_of};
 ghost use Rattle.ports.specs.Devices.{device_of, devices_of, flags_of, devices_length};
-ghost use Rattle.ports.specs.Keys.{selected, row_in, keys_read};
+ghost use Rattle.ports.specs.Keys.{selected, row_in, rows_and, keys_read};
 ghost use Rattle.ports.specs.Order.{with_joystick, with_ay, with_mouse, read_order};
 ghost use Rattle.ports.specs.Hearers.{port_hearers, hearers, heard_code, hearers_of};
 ghost use Rattle.offsets.specs.Offset.{line_start, attribute_start};
@@ -45,7 +45,7 @@ pub struct Devices {
 }
 
 // Who hears a port write. Whether a paging write is locked out is the memory's to say.
-#[derive(Drop)]
+#[derive(Clone, Copy)]
 pub enum Written {
     Extender,
     AySelect,
@@ -99,7 +99,7 @@ pub fn flags(s: &[u8; DEVICES_LENGTH]) -> bool
 }
 
 // Whether the port's high byte selects row n, by a 0 in its bit n.
-fn row_selected(port: u16, n: u16) -> bool
+fn row_selected(port: u16, n: usize) -> bool
     requires { n < 8 }
     ensures { result ≡ selected port n }
 {
@@ -113,27 +113,32 @@ fn row_read(rows: [u8; 24], port: u16, n: usize) -> u8
     ensures { result ≡ cond (selected port n) (row_in rows n) 0xFF }
 {
     let row = rows[n] & rows[n + 8] & rows[n + 16];
-    if row_selected(port, n as u16) {
-        row
-    } else {
-        0xFF
-    }
+    if row_selected(port, n) { row } else { 0xFF }
 }
 
-// The byte of an even port: the selected rows of the three sets ANDed, and bit 6 toggled when the tape bit is 0. Once no bit is left no
-// row brings one back. The walk asks for that at every second row, which also keeps the compiler from ANDing all rows at once by masks
-// that it would have to load.
-pub fn keys(rows: [u8; 24], tape: u8, port: u16) -> u8
-    ensures { result ≡ keys_read rows tape port }
+// The selected rows of the three sets ANDed. Once no bit is left no row brings one back. The walk asks for that at every second row, which
+// also keeps the compiler from ANDing all rows at once by masks that it would have to load.
+fn rows_read(rows: [u8; 24], port: u16) -> u8
+    ensures { result ≡ rows_and rows port 8 }
 {
-    let mut value: u8 = 0xFF;
-    let mut n: usize = 0;
-    while n < 8 && value != 0 {
+    let mut value = 0xFF;
+    for n in (0..8).step_by(2) {
         let even = row_read(rows, port, n);
         let odd = row_read(rows, port, n + 1);
         value = value & even & odd;
-        n += 2;
+        if value == 0 {
+            break;
+        }
     }
+    value
+}
+
+// The byte of an even port: the selected rows, and bit 6 toggled when the tape bit is 0.
+#[tactic(auto, unfolding(crate::specs::Keys::keys_read))]
+pub fn keys(rows: [u8; 24], tape: u8, port: u16) -> u8
+    ensures { result ≡ keys_read rows tape port }
+{
+    let value = rows_read(rows, port);
     if tape == 0 { value ^ 0x40 } else { value }
 }
 
@@ -198,6 +203,7 @@ pub fn write_port(m: ZXMachine, d: Devices, port: u16) -> Written
     }
 }
 
+#[tactic(auto, using(crate::proofs::Ways::is_even, crate::proofs::Ways::is_odd), unfolding(crate::specs::Hearers::port_hearers))]
 fn written_by_port(m: ZXMachine, port: u16) -> Written
     ensures { hearers_of result ≡ port_hearers m port }
 {

@@ -1,7 +1,11 @@
 // What it is: the scripts of the oracle: their records, what both sides work out alike (digests, page fillings, devices), and the lines of answers.
-// What it promises: to be safe and to end. The program replay is held to the lines that the original's side writes.
-// Where its definitions stand: nowhere; oracle/README.md has the table of records and lines.
+// What it promises: a record's operation, numbers and machine are those of its bytes, and a line holds the numbers of the answer's bytes; the rest to be safe and to end. The program replay is held to the lines that the original's side writes.
+// Where its definitions stand: specs/Letters.antt (letters), and oracle/README.md, the table of records and lines.
 #![tactic(auto)]
+
+ghost use Rattle.std.specs.Prelude.{◌≡◌, ◌%◌, ◌<◌, ◌↔◌, length, slice_set, IsOk, IsSome, IfErr};
+ghost use Rattle.record.specs.Words.{byte_at, word_at, long_at};
+ghost use Rattle.script.specs.Letters.{op_of, machine_asked};
 
 use machine::ZXMachine;
 use std::fmt;
@@ -67,6 +71,8 @@ pub enum Helper {
 
 // By its letter. Any other letter asks for a colour from bits.
 impl From<u8> for Op {
+    ghost from_gives = { λ letter op. op ≡ op_of letter };
+
     fn from(letter: u8) -> Op {
         match letter {
             b'S' => Op::Start,
@@ -111,6 +117,8 @@ pub struct Call {
 }
 
 impl From<[u8; 8]> for Call {
+    ghost from_gives = { λ b call. (call.op ≡ op_of (byte_at b 0)) × (call.x ≡ byte_at b 1) × (call.y ≡ word_at b 2) × (call.z ≡ long_at b 4) };
+
     fn from(bytes: [u8; 8]) -> Call {
         let [letter, x, y0, y1, z0, z1, z2, z3] = bytes;
         Call {
@@ -124,7 +132,9 @@ impl From<[u8; 8]> for Call {
 
 impl Call {
     // The machine on which it is played: a start's own, else that of the state record.
-    pub fn machine(self, state: &[u8]) -> ZXMachine {
+    pub fn machine(self, state: &[u8]) -> ZXMachine
+        ensures { result ≡ machine_asked self.op self.z state.now }
+    {
         match self.op {
             Op::Start => record::machine_from((self.z % 256) as u8),
             _ => record::machine_from(byte_at(state, 5)),
@@ -220,7 +230,10 @@ impl fmt::Display for Refused {
 }
 
 // What a call's number says: 0 is no refusal.
-pub fn accepted(number: u8) -> Result<(), Refused> {
+pub fn accepted(number: u8) -> Result<(), Refused>
+    ensures none { IsOk result ↔ (number ≡ 0) }
+    ensures refused { IfErr result (λ e. e.0 ≡ number) }
+{
     if number == 0 {
         Ok(())
     } else {
@@ -229,13 +242,17 @@ pub fn accepted(number: u8) -> Result<(), Refused> {
 }
 
 // The number that an accepted call answers in its five bytes.
-pub fn number_line(answer: [u8; 5]) -> Line {
+pub fn number_line(answer: [u8; 5]) -> Line
+    ensures { result ≡ Line.Number (long_at answer 1) }
+{
     let [_, n0, n1, n2, n3] = answer;
     Line::Number(u32::from_le_bytes([n0, n1, n2, n3]))
 }
 
 // What an accepted timed call answers in its ten bytes, behind the value that its line begins with.
-pub fn timed_line(value: u8, answer: [u8; 10]) -> Line {
+pub fn timed_line(value: u8, answer: [u8; 10]) -> Line
+    ensures { result ≡ Line.Timed value (byte_at answer 2) (byte_at answer 3) (long_at answer 4) (word_at answer 8) }
+{
     let [_, _, closed, interrupt, c0, c1, c2, c3, b0, b1] = answer;
     Line::Timed {
         value,
@@ -248,11 +265,15 @@ pub fn timed_line(value: u8, answer: [u8; 10]) -> Line {
 
 // ---- the state record and the devices, seen from outside
 
-pub fn byte_at(bytes: &[u8], i: usize) -> u8 {
+pub fn byte_at(bytes: &[u8], i: usize) -> u8
+    ensures { result ≡ byte_at bytes.now i }
+{
     bytes.get(i).copied().unwrap_or(0)
 }
 
-pub fn clock_line(state: &[u8]) -> Line {
+pub fn clock_line(state: &[u8]) -> Line
+    ensures { result ≡ Line.Clock (long_at state.now 6) (byte_at state.now 18) }
+{
     Line::Clock {
         clock: u32::from_le_bytes([
             byte_at(state, 6),
@@ -292,8 +313,14 @@ pub fn no_devices(devices: &mut [u8], ay: u8) {
 }
 
 // Sets a byte of the device record, if it has that byte.
-pub fn set_device(call: Call, devices: &mut [u8]) -> Option<Line> {
-    let device = devices.get_mut(usize::from(call.x))?;
-    *device = (call.z % 256) as u8;
+pub fn set_device(call: Call, devices: &mut [u8]) -> Option<Line>
+    ensures there { IsSome result ↔ (call.x < length devices.old) }
+    ensures set { devices.new ≡ slice_set devices.old call.x (call.z % 256) }
+{
+    let i = usize::from(call.x);
+    if devices.len() <= i {
+        return None;
+    }
+    devices[i] = (call.z % 256) as u8;
     Some(Line::Done)
 }

@@ -10,7 +10,9 @@ ghost use Rattle.contracts.specs.Plain.{changed};
 ghost use Rattle.contracts.specs.Snapshots.{import_leaves, load_sna, save_sna};
 
 use judgement::Refusal;
+use memory::Map;
 use record::Bus;
+use snapshot::Snapshot;
 
 // The causes in their order: machine, lengths, the size that is due, the copies. Accepted, with the record that is to be written.
 fn judge_load_sna(
@@ -34,17 +36,13 @@ fn judge_load_sna(
     if !fits {
         return Err(Refusal::BadLength);
     }
-    let paging = snapshot::paging_in(m, file);
-    let due = snapshot::due_size(m, paging);
-    let sized = file.len() == due;
-    if !sized {
+    let Some(snapshot) = Snapshot::new(m, file) else {
         return Err(Refusal::WrongSize);
-    }
-    let differ = snapshot::copies_differ(m, file);
-    if differ {
+    };
+    if snapshot.copies_differ() {
         return Err(Refusal::UnequalCopies);
     }
-    Ok(snapshot::snapshot_record(m, file))
+    Ok(snapshot.bus())
 }
 
 // The record is only written, whatever it holds; ROM is not lent, so that it cannot be touched.
@@ -75,9 +73,12 @@ pub extern "C" fn ulb_load_sna(
     ) {
         Err(e) => u8::from(e),
         Ok(bus) => {
-            let m = bus.machine;
-            snapshot::read_ram(m, file, ram);
-            snapshot::read_registers(m, file, registers);
+            let snapshot = Snapshot {
+                machine: bus.machine,
+                file,
+            };
+            snapshot.read_ram(ram);
+            snapshot.read_registers(registers);
             a.fill(0);
             b.fill(0);
             border.fill(0);
@@ -95,8 +96,7 @@ pub extern "C" fn ulb_save_sna(state: &[u8], ram: &[u8], file: &mut [u8], regist
     match judgement::judge_save_sna(state, ram.len(), file.len(), registers.len()) {
         Err(e) => u8::from(e),
         Ok(bus) => {
-            let m = bus.machine;
-            snapshot::write_file(m, bus.paging, bus.reported, ram, registers, file);
+            snapshot::write_file(Map::from(bus), bus.reported, ram, registers, file);
             0
         }
     }

@@ -7,7 +7,7 @@ use Rattle.contracts.proofs.Leaves.{changed_refused, changed_accepted}
 use Rattle.ulb_sna.proofs.ulb_save_sna.Goals as goal
 
 pub write_file-requires : goal.write_file-requires
-write_file-requires c = let r = ready_save_sna _ _ _ _ _ (sym c.judge_save_sna.ensures ∙ c.in-Ok.is) in (r.ram_is, r.registers_is, r.file_is)
+write_file-requires c = let r = ready_save_sna _ _ _ _ _ (sym c.judge_save_sna.ensures ∙ c.in-Ok.is) in rw c.from-in-Ok.ensures (r.ram_is, r.registers_is, r.file_is)
 
 pub returns-in-Err : goal.returns-in-Err
 unfolding save_sna
@@ -15,4 +15,4 @@ returns-in-Err c = changed_refused _ _ c.judge_save_sna.ensures _ _ _ _ c.in-Err
 
 pub returns-in-Ok : goal.returns-in-Ok
 unfolding save_sna
-returns-in-Ok c = changed_accepted _ _ c.judge_save_sna.ensures _ _ _ _ c.in-Ok.is c.write_file.ensures
+returns-in-Ok c = changed_accepted _ _ c.judge_save_sna.ensures _ _ _ _ c.in-Ok.is (rw c.from-in-Ok.ensures at c.write_file.ensures)
