@@ -3,9 +3,10 @@
 use mathlib.Core.Path.{◌≡◌, refl, sym, ◌∙◌, ap}
 use mathlib.Core.List.{List, ◌++◌}
 use mathlib.Core.Logic.{◌⊎◌, inl, inr}
-use Prim.Native.Nat.{ℕ, ◌+◌, ◌-◌, ◌≤◌, ◌<◌}
+use Prim.Native.Nat.{ℕ, zero, suc, ◌+◌, ◌-◌, ◌≤◌, ◌<◌}
+use native.Mathlib.Nat.{add-zero}
 use native.Mathlib.Omega.{arith}
-use lib.ListN.{length, get_or, replicate, take, drop, length-replicate, get_or-replicate}
+use lib.ListN.{length, get_or, set, replicate, take, drop, length-replicate, get_or-replicate}
 use Rattle.std.proofs.Common.{append_assoc}
 use Rattle.std.proofs.lemmas.List.Edits.{paste_all}
 use Rattle.std.proofs.lemmas.Slice.{put_mid-paste}
@@ -13,6 +14,11 @@ use lib.Seq.{sets, length-sets, sets-eq}
 use borrow.Rule.Slice.PartMut.{put_mid}
 use Rattle.laws.proofs.Stores.{sets_out, sets_in}
 use Rattle.border.specs.Edge.{filled}
+
+-- one more pixel of the run
+store_more : (k : ℕ) (l : List ℕ) (i v : ℕ) → set (sets l i (replicate k v)) (i + k) v ≡ sets l i (replicate (suc k) v)
+store_more zero l i v = rw add-zero
+store_more (suc k) l i v = let e : i + suc k ≡ suc i + k = omega arith in rw e (store_more k (set l i v) (suc i) v)
 
 module _ (from to colour : ℕ) (pixels : List ℕ) where
   -- the length is kept
@@ -24,6 +30,14 @@ module _ (from to colour : ℕ) (pixels : List ℕ) where
   pub filled_none : to ≤ from → filled from to colour pixels ≡ pixels
   unfolding filled
   filled_none h = let e : to - from ≡ 0 = omega arith in rw e
+
+  -- one pixel more
+  pub filled_more : from ≤ to → set (filled from to colour pixels) to colour ≡ filled from (to + 1) colour pixels
+  unfolding filled
+  filled_more h =
+      let e : to ≡ from + (to - from) = omega arith in
+      let f : to + 1 - from ≡ suc (to - from) = omega arith in
+      rw f (ap (λ (i : ℕ). set (sets pixels from (replicate (to - from) colour)) i colour) e ∙ store_more (to - from) pixels from colour)
 
   -- a part of the pixels, written
   pub filled_part : (part : List ℕ) → part ≡ replicate (to - from) colour → from ≤ to → to ≤ length pixels
@@ -53,3 +67,8 @@ module _ (from to colour : ℕ) (pixels : List ℕ) where
       ap (λ (j : ℕ). get_or (sets pixels from (replicate (to - from) colour)) j 0) e
       ∙ sets_in pixels from (replicate (to - from) colour) (i - from) (omega arith) (omega arith)
       ∙ get_or-replicate (to - from) (i - from) colour 0 (omega arith)
+
+-- a fill by its count of pixels
+pub filled_upto : (from i to colour : ℕ) (pixels : List ℕ) → i - from ≡ to - from → filled from i colour pixels ≡ filled from to colour pixels
+unfolding filled
+filled_upto from i to colour pixels e = rw e

@@ -10,6 +10,7 @@ ghost use Rattle.judgement.specs.Judges.{number_fits, ram_fits, rom_fits, lent_f
 ghost use Rattle.judgement.specs.Answers.{timed_length, timed_answer, number_length, number_answer, refused_answer};
 
 use machine::ZXMachine;
+use memory::Map;
 use record::{BadRecord, Bus};
 
 // Bytes of a timed call's answer, and of another call's with a number to give.
@@ -455,9 +456,7 @@ pub fn judge_load_scr(state: &[u8], ram: usize, file: usize, page: u32) -> Verdi
 fn wrong_size(bus: Bus, file: usize) -> bool
     ensures { result ≡ (wrong_size bus.machine bus.paging file).holds }
 {
-    let m = bus.machine;
-    let due = snapshot::due_size(m, bus.paging);
-    !(file == due)
+    file != snapshot::due_size(Map::from(bus))
 }
 
 pub fn judge_save_sna(state: &[u8], ram: usize, file: usize, registers: usize) -> Verdict

@@ -7,8 +7,8 @@ use mathlib.Core.Bool.{Bool, true, false, cond}
 use mathlib.Core.List.{List, [], ◌∷◌, ◌++◌, append-nil}
 use native.Mathlib.Nat.{min-le_right}
 use native.Mathlib.Omega.{arith}
-use lib.ListN.{length, get_or, set, take, drop, length-append, length-set, length-take}
-use lib.Seq.{sets, length-sets, length-take-le, take-take, take_at, drop_at, take-add, get_or-take}
+use lib.ListN.{length, get_or, set, take, drop, length-append, length-set, length-take, length-drop}
+use lib.Seq.{sets, length-sets, length-take-le, take-take, take_at, drop_at, take-add, get_or-take, get_or-drop}
 use Rattle.machine.specs.declared.ZXMachine.{ZXMachine}
 use Rattle.machine.specs.declared.ZXMachine.TheVariants.{Sinclair48K, Sinclair128K}
 use Rattle.machine.specs.Numbers.{specs_of}
@@ -18,8 +18,8 @@ use Rattle.snapshot.specs.Kept.{header_of, between, snapshot_file}
 use Rattle.snapshot.specs.Written.{Writes}
 use Rattle.snapshot.proofs.Order.{length_order, due_is_banks, first_three, three_banks, due_least, bank_exists, bank_whole}
 use Rattle.snapshot.proofs.Front.{Front, front_more, front_all}
-use Rattle.snapshot.proofs.Reading.{few_places}
-use Rattle.snapshot.proofs.Writing.{banks_long}
+use Rattle.snapshot.proofs.Laid.{length_laid}
+use Rattle.snapshot.proofs.Writing.{page_long}
 
 -- ---- the order in two parts
 -- three places and as many more as the code counts, one more where a bank stands twice
@@ -60,13 +60,19 @@ module _ {m : ZXMachine} {byte : ℕ} {ram registers banks file : List ℕ} (l :
       rw (e, l.ram_size) (bank_whole m (get_or (banks_in_order m byte) k 0) (bank_exists m byte k h))
 
   -- banks at places of the order are there, whole in RAM
-  writes : (first count n at : ℕ) → first + count ≤ length (banks_in_order m byte) → at + 16384 * count ≤ n → Writes banks first count (length ram) n at
-  writes first count n at h room = record {
-    places = omega (arith, few_places m byte);
-    listed = omega (arith, listed);
-    in_ram = λ k g. in_ram_lem (first + k) (omega arith);
-    room = room;
-  }
+  part_long : (first count : ℕ) → first + count ≤ length (banks_in_order m byte) → length (take count (drop first banks)) ≡ count
+  part_long first count h = length-take-le count (drop first banks) (rw length-drop (omega (arith, listed)))
+
+  writes : (first count n at : ℕ) → first + count ≤ length (banks_in_order m byte) → at + 16384 * count ≤ n
+      → Writes (take count (drop first banks)) (length ram) n at
+  writes first count n at h room =
+      let long = part_long first count h in
+      record {
+        in_ram = λ k g.
+            let i : k < count = omega (arith, long) in
+            rw (get_or-take count (drop first banks) k 0 i, get_or-drop first banks k 0) (in_ram_lem (first + k) (omega arith));
+        room = rw long room;
+      }
 
   are_first : take 3 (drop 0 banks) ≡ first_banks m byte
   unfolding banks_in_order
@@ -86,7 +92,10 @@ module _ {m : ZXMachine} {byte : ℕ} {ram registers banks file : List ℕ} (l :
       ∙ drop_at (first_banks m byte) (remaining_banks m byte) 3 (first_three m byte)
 
   laid_long : (first count : ℕ) → first + count ≤ length (banks_in_order m byte) → length (laid page (take count (drop first banks))) ≡ 16384 * count
-  laid_long first count h = banks_long ram banks first count count (omega (arith, listed)) (omega arith) (λ k g. in_ram_lem (first + k) (omega arith))
+  laid_long first count h =
+      let w = writes first count (16384 * count) 0 h (omega arith) in
+      length_laid 16384 page (take count (drop first banks)) (λ k g. page_long (get_or (take count (drop first banks)) k 0) ram (w.in_ram k g))
+      ∙ ap (λ (n : ℕ). 16384 * n) (part_long first count h)
 
   least : 49179 ≤ length file
   least = rw l.due (due_least m byte)
@@ -112,7 +121,7 @@ module _ {m : ZXMachine} {byte : ℕ} {ram registers banks file : List ℕ} (l :
       two_long = length-set one 26 border ∙ one_long
 
       -- and the first three banks behind that
-      pub first_writes : Writes banks 0 3 (length ram) (length (set one 26 border)) 27
+      pub first_writes : Writes (take 3 banks) (length ram) (length (set one 26 border)) 27
       first_writes = writes 0 3 (length (set one 26 border)) 27 (omega (arith, three_banks m byte)) (omega (arith, two_long, least))
 
       header_front : Front file (header_of registers border) (set one 26 border)
@@ -167,7 +176,7 @@ module _ {m : ZXMachine} {byte : ℕ} {ram registers banks file : List ℕ} (l :
             four_long = ap length behind ∙ length-sets three 49179 (between Sinclair128K registers byte) ∙ three_long
 
             -- and the other banks behind it
-            pub rest_writes : Writes banks 3 rest (length ram) (length four) 49183
+            pub rest_writes : Writes (take rest (drop 3 banks)) (length ram) (length four) 49183
             rest_writes = writes 3 rest (length four) 49183 (omega arith) (omega (arith, four_long, due_long, four_bytes))
 
             four_front : Front file (front ++ between m registers byte) four

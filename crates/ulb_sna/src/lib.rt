@@ -10,6 +10,8 @@ ghost use Rattle.contracts.specs.Plain.{changed};
 ghost use Rattle.contracts.specs.Snapshots.{import_leaves, load_sna, save_sna};
 
 use judgement::{Refusal, Verdict};
+use memory::Map;
+use snapshot::Snapshot;
 
 // The causes in their order: machine, lengths, the size that is due, the copies. Accepted, with the record that is to be written.
 fn judge_load_sna(
@@ -33,17 +35,13 @@ fn judge_load_sna(
     if !fits {
         return Verdict::Refused(Refusal::BadLength);
     }
-    let paging = snapshot::paging_in(m, file);
-    let due = snapshot::due_size(m, paging);
-    let sized = file.len() == due;
-    if !sized {
+    let Some(snapshot) = Snapshot::new(m, file) else {
         return Verdict::Refused(Refusal::WrongSize);
-    }
-    let differ = snapshot::copies_differ(m, file);
-    if differ {
+    };
+    if snapshot.copies_differ() {
         return Verdict::Refused(Refusal::UnequalCopies);
     }
-    Verdict::Accepted(snapshot::snapshot_record(m, file))
+    Verdict::Accepted(snapshot.bus())
 }
 
 // The record is only written, whatever it holds; ROM is not lent, so that it cannot be touched.
@@ -75,9 +73,12 @@ pub extern "C" fn ulb_load_sna(
     match v {
         Verdict::Refused(e) => judgement::number(e),
         Verdict::Accepted(bus) => {
-            let m = bus.machine;
-            snapshot::read_ram(m, file, ram);
-            snapshot::read_registers(m, file, registers);
+            let snapshot = Snapshot {
+                machine: bus.machine,
+                file,
+            };
+            snapshot.read_ram(ram);
+            snapshot.read_registers(registers);
             judgement::clear(a);
             judgement::clear(b);
             judgement::clear(border);
@@ -96,8 +97,7 @@ pub extern "C" fn ulb_save_sna(state: &[u8], ram: &[u8], file: &mut [u8], regist
     match v {
         Verdict::Refused(e) => judgement::number(e),
         Verdict::Accepted(bus) => {
-            let m = bus.machine;
-            snapshot::write_file(m, bus.paging, bus.reported, ram, registers, file);
+            snapshot::write_file(Map::from(bus), bus.reported, ram, registers, file);
             0
         }
     }

@@ -8,10 +8,10 @@ pub returns-in-Sinclair48K : goal.returns-in-Sinclair48K
 unfolding due_size
 returns-in-Sinclair48K c = rw c.in-Sinclair48K.is
 
-pub returns-then-twice : goal.returns-then-twice
+pub returns-then-stands_twice : goal.returns-then-stands_twice
 unfolding due_size
-returns-then-twice c = twice_due _ _ _ c.in-Sinclair128K.is c.stands_twice-twice.ensures (search rules)
+returns-then-stands_twice c = twice_due _ _ _ c.in-Sinclair128K.is c.stands_twice.ensures (search rules)
 
-pub returns-else-twice : goal.returns-else-twice
+pub returns-else-stands_twice : goal.returns-else-stands_twice
 unfolding due_size
-returns-else-twice c = once_due _ _ _ c.in-Sinclair128K.is c.stands_twice-twice.ensures (search rules)
+returns-else-stands_twice c = once_due _ _ _ c.in-Sinclair128K.is c.stands_twice.ensures (search rules)

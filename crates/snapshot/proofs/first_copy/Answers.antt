@@ -3,8 +3,8 @@ use borrow.Author.Rules.{rules}
 use Rattle.snapshot.proofs.Leaves.{copy_5, copy_2}
 use Rattle.snapshot.proofs.first_copy.Goals as goal
 
-pub returns-then-paging-eq5 : goal.returns-then-paging-eq5
-returns-then-paging-eq5 c = (copy_5 _ _ c.requires (search rules), search rules)
+pub returns-then-map-eq5 : goal.returns-then-map-eq5
+returns-then-map-eq5 c = (copy_5 _ _ c.requires (search rules), search rules)
 
-pub returns-else-paging-eq5 : goal.returns-else-paging-eq5
-returns-else-paging-eq5 c = (copy_2 _ _ c.requires (search rules), search rules)
+pub returns-else-map-eq5 : goal.returns-else-map-eq5
+returns-else-map-eq5 c = (copy_2 _ _ c.requires (search rules), search rules)

@@ -8,13 +8,13 @@ pub returns-then-a-b : goal.returns-then-a-b
 returns-then-a-b c = same_short _ _ (search rules)
 
 pub loop-i-init : goal.loop-i-init
-loop-i-init c = (search rules, search rules, refl)
+loop-i-init c = (search rules, refl)
 
-pub returns-then-a-i : goal.returns-then-a-i
-returns-then-a-i c = let l = c.loop-i in same_no _ _ l.i l.invariant.1 (search rules) l.invariant.2 (search rules)
+pub returns-then-x-b : goal.returns-then-x-b
+returns-then-x-b c = let l = c.loop-i in same_no _ _ l.i l.invariant.0 (search rules) l.invariant.1 (search rules)
 
 pub loop-i-preserved : goal.loop-i-preserved
-loop-i-preserved c = let l = c.loop-i in (search rules, l.invariant.1, same_on _ _ l.i l.invariant.1 (search rules) l.invariant.2 (search rules))
+loop-i-preserved c = let l = c.loop-i in (l.invariant.0, same_on _ _ l.i l.invariant.0 (search rules) l.invariant.1 (search rules))
 
 pub returns : goal.returns
-returns c = let l = c.loop-i in same_yes _ _ l.i l.invariant.1 (search rules) (search rules) l.invariant.2
+returns c = let l = c.loop-i in same_yes _ _ l.i l.invariant.0 (search rules) (search rules) l.invariant.1

@@ -1,26 +1,22 @@
 -- The loop's invariant: the banks written so far are one store: `bank_written`.
-use mathlib.Core.Path.{◌≡◌, refl}
+use mathlib.Core.Path.{refl}
 use native.Mathlib.Omega.{arith}
 use borrow.Author.Rules.{rules}
 use Rattle.snapshot.specs.File.{laid}
-use Rattle.snapshot.proofs.Writing.{bank_written}
+use Rattle.snapshot.proofs.Writing.{page_long, bank_written}
 use Rattle.snapshot.proofs.write_banks.Goals as goal
 
 pub loop-k-init : goal.loop-k-init
 unfolding laid
-loop-k-init c = (search rules, refl, refl)
+loop-k-init c = (refl, refl)
 
-pub overflow_mul-from : goal.overflow_mul-from
-overflow_mul-from c = omega (arith, c.requires.in_ram c.loop-k.k (omega arith))
-
-pub overflow_add-to : goal.overflow_add-to
-overflow_add-to c = omega (arith, c.requires.in_ram c.loop-k.k (omega arith))
-
-pub slice_bounds-put-end : goal.slice_bounds-put-end
-slice_bounds-put-end c = omega (arith, c.requires.in_ram c.loop-k.k (omega arith))
+pub put-requires : goal.put-requires
+put-requires c =
+    let long = page_long _ _ (c.requires.in_ram c.loop-k.k (omega arith)) in
+    rw (c.ram_page_data-page.ensures, c.from.ensures, long) (omega (arith, c.requires.room, c.loop-k.invariant.0))
 
 pub loop-k-preserved : goal.loop-k-preserved
-loop-k-preserved c = let s = c in let l = c.loop-k in (search rules, search rules, bank_written s.args.ram.now s.args.banks s.args.file.now l.file _ s.args.first s.args.count s.args.at l.k _ s.requires (search rules) refl l.invariant.2 c.put.ensures)
-
-pub returns : goal.returns
-returns c = let l = c.loop-k in let e : l.k ≡ c.args.count = omega arith in rw (← e) l.invariant.2
+loop-k-preserved c =
+    let s = c in
+    let put = rw (c.ram_page_data-page.ensures, c.from.ensures) at c.put.ensures in
+    (search rules, bank_written s.args.ram.now s.args.banks.now s.args.file.now _ _ s.args.at c.loop-k.k c.requires (omega arith) c.loop-k.invariant.1 put)

@@ -1,7 +1,11 @@
--- The causes are tested in the definition's order.
+-- The causes are tested in the definition's order; that a file is a snapshot is that its size is the one due.
 -- Assumes nothing.
+use mathlib.Core.Path.{◌≡◌}
 use native.Mathlib.Omega.{arith}
+use lib.ListN.{length}
+use borrow.Author.Rules.{rules}
 use borrow.Author.Tests.{lt-ltb, le-ltb, eq-eqb, ne_eqb}
+use Rattle.snapshot.specs.File.{due_size, paging_in}
 use Rattle.judgement.specs.Refusals.{judged}
 use Rattle.judgement.specs.Judges.{judge_load_sna}
 use Rattle.ulb_sna.proofs.judge_load_sna.Goals as goal
@@ -14,20 +18,26 @@ pub returns-then-not-fits : goal.returns-then-not-fits
 unfolding judge_load_sna judged
 returns-then-not-fits c = rw (le-ltb 1 c.args.machine (omega (arith, c.if-machine-gt1.false)), ← c.machine_from-m.ensures, ← c.start_fits.ensures, c.if-not-fits.true)
 
-pub returns-then-not-sized : goal.returns-then-not-sized
+pub returns-in_default : goal.returns-in_default
 unfolding judge_load_sna judged
-returns-then-not-sized c = rw (le-ltb 1 c.args.machine (omega (arith, c.if-machine-gt1.false)), ← c.machine_from-m.ensures, ← c.start_fits.ensures, c.if-not-fits.false, ← c.paging_in-paging.ensures, ← c.due_size-due.ensures, ne_eqb _ _ c.if-not-sized.true)
+returns-in_default c =
+    let m = c.machine_from-m.result in
+    let file = c.args.file.now in
+    let wrong : length file ≡ due_size m (paging_in m file) → ⊥ = λ e. search rules in
+    rw (le-ltb 1 c.args.machine (omega (arith, c.if-machine-gt1.false)), ← c.machine_from-m.ensures, ← c.start_fits.ensures, c.if-not-fits.false, ne_eqb _ _ wrong)
 
-pub copies_differ-differ-requires : goal.copies_differ-differ-requires
-copies_differ-differ-requires c = rw (← c.paging_in-paging.ensures, ← c.due_size-due.ensures) c.if-not-sized.false
-
-pub returns-then-differ : goal.returns-then-differ
+pub returns-then-copies_differ : goal.returns-then-copies_differ
 unfolding judge_load_sna judged
-returns-then-differ c = rw (le-ltb 1 c.args.machine (omega (arith, c.if-machine-gt1.false)), ← c.machine_from-m.ensures, ← c.start_fits.ensures, c.if-not-fits.false, ← c.paging_in-paging.ensures, ← c.due_size-due.ensures, eq-eqb _ _ c.if-not-sized.false, ← c.copies_differ-differ.ensures, c.if-differ.true)
-
-pub snapshot_record-requires : goal.snapshot_record-requires
-snapshot_record-requires c = rw (← c.paging_in-paging.ensures, ← c.due_size-due.ensures) c.if-not-sized.false
+returns-then-copies_differ c =
+    let of_file = c.in-Some.ensures.of_file in
+    let sized = rw (of_file.0, of_file.1) at c.in-Some.snapshot.sized in
+    let differ = rw (of_file.0, of_file.1) at c.copies_differ.ensures in
+    rw (le-ltb 1 c.args.machine (omega (arith, c.if-machine-gt1.false)), ← c.machine_from-m.ensures, ← c.start_fits.ensures, c.if-not-fits.false, eq-eqb _ _ sized, ← differ, c.if-copies_differ.true)
 
 pub returns : goal.returns
 unfolding judge_load_sna judged
-returns c = rw (c.snapshot_record.ensures, le-ltb 1 c.args.machine (omega (arith, c.if-machine-gt1.false)), ← c.machine_from-m.ensures, ← c.start_fits.ensures, c.if-not-fits.false, ← c.paging_in-paging.ensures, ← c.due_size-due.ensures, eq-eqb _ _ c.if-not-sized.false, ← c.copies_differ-differ.ensures, c.if-differ.false)
+returns c =
+    let of_file = c.in-Some.ensures.of_file in
+    let sized = rw (of_file.0, of_file.1) at c.in-Some.snapshot.sized in
+    let differ = rw (of_file.0, of_file.1) at c.copies_differ.ensures in
+    rw (c.bus.ensures, of_file.0, of_file.1, le-ltb 1 c.args.machine (omega (arith, c.if-machine-gt1.false)), ← c.machine_from-m.ensures, ← c.start_fits.ensures, c.if-not-fits.false, eq-eqb _ _ sized, ← differ, c.if-copies_differ.false)

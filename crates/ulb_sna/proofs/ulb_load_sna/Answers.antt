@@ -4,11 +4,14 @@ use Rattle.contracts.specs.Timed.{lent}
 use Rattle.ulb_sna.proofs.Opened.{import_refused, import_lengths, import_accepted}
 use Rattle.ulb_sna.proofs.ulb_load_sna.Goals as goal
 
+pub invariant_of-snapshot : goal.invariant_of-snapshot
+invariant_of-snapshot c = let n = import_lengths (lent c.args.state.now c.args.ram.now c.args.a.now c.args.b.now c.args.border.now) c.args.file.now c.args.registers.now c.args.machine _ c.judge_load_sna-v.ensures _ c.in-Accepted.is in record { sized = n.file_is }
+
 pub read_ram-requires : goal.read_ram-requires
-read_ram-requires c = let n = import_lengths (lent c.args.state.now c.args.ram.now c.args.a.now c.args.b.now c.args.border.now) c.args.file.now c.args.registers.now c.args.machine _ c.judge_load_sna-v.ensures _ c.in-Accepted.is in (n.file_is, n.ram_is)
+read_ram-requires c = let n = import_lengths (lent c.args.state.now c.args.ram.now c.args.a.now c.args.b.now c.args.border.now) c.args.file.now c.args.registers.now c.args.machine _ c.judge_load_sna-v.ensures _ c.in-Accepted.is in n.ram_is
 
 pub read_registers-requires : goal.read_registers-requires
-read_registers-requires c = let n = import_lengths (lent c.args.state.now c.args.ram.now c.args.a.now c.args.b.now c.args.border.now) c.args.file.now c.args.registers.now c.args.machine _ c.judge_load_sna-v.ensures _ c.in-Accepted.is in (n.file_is, n.registers_is)
+read_registers-requires c = let n = import_lengths (lent c.args.state.now c.args.ram.now c.args.a.now c.args.b.now c.args.border.now) c.args.file.now c.args.registers.now c.args.machine _ c.judge_load_sna-v.ensures _ c.in-Accepted.is in n.registers_is
 
 pub encode-requires : goal.encode-requires
 encode-requires c = let n = import_lengths (lent c.args.state.now c.args.ram.now c.args.a.now c.args.b.now c.args.border.now) c.args.file.now c.args.registers.now c.args.machine _ c.judge_load_sna-v.ensures _ c.in-Accepted.is in n.state_is
