@@ -24,6 +24,8 @@ pub enum Page {
 }
 
 // A byte's place among all the bytes of ROM, or of RAM.
+// Kept: one generic enum for pages and places is no plainer. Definitions count in ℕ, where both would be one type, and a page taken for a
+// place would no longer be refused there.
 #[derive(Clone, Copy)]
 pub enum Place {
     Rom(usize),
@@ -31,6 +33,7 @@ pub enum Place {
 }
 
 // What became of a 7FFD write: there is no such port, it is locked, or the byte is held from now on.
+// Kept: three outcomes, to each of which 01 gives a number of its own.
 #[derive(Clone, Copy)]
 pub enum Paged {
     Absent,
