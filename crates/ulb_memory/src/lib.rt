@@ -69,10 +69,12 @@ pub extern "C" fn ulb_block(
 ) -> u8
     ensures { told result answer.new ≡ block_told state.now rom.now ram.now block answer.old }
 {
-    let number = judgement::judge_block(state, rom.len(), ram.len(), block, answer.len()).map(
-        |bus| memory::part_start(bus.machine, Map::from(bus).get_bank_type(block)),
-    );
-    judgement::tell(answer, number)
+    let judged = judgement::judge_block(state, rom.len(), ram.len(), block, answer.len());
+    let start = judged.map(|bus| memory::part_start(
+        bus.machine,
+        Map::from(bus).get_bank_type(block),
+    ));
+    judgement::tell(answer, start)
 }
 
 // A RAM page by its number; an empty part where the call is refused.

@@ -15,10 +15,8 @@ use memory::Map;
 pub extern "C" fn ulb_shown_picture(state: &[u8], a: &[u8], b: &[u8], answer: &mut [u8]) -> u8
     ensures { told result answer.new ≡ shown_told state.now a.now b.now answer.old }
 {
-    let number = judgement::judge_shown(state, a.len(), b.len(), answer.len()).map(
-        |bus| shown_start(bus.phase),
-    );
-    judgement::tell(answer, number)
+    let judged = judgement::judge_shown(state, a.len(), b.len(), answer.len());
+    judgement::tell(answer, judged.map(|bus| shown_start(bus.phase)))
 }
 
 // A is shown in even phases, and B, which is counted after A, in odd ones.

@@ -33,8 +33,8 @@ pub extern "C" fn ulb_write_7ffd(state: &mut [u8], value: u8, answer: &mut [u8])
 pub extern "C" fn ulb_read_7ffd(state: &[u8], answer: &mut [u8]) -> u8
     ensures { told result answer.new ≡ read7ffd state.now answer.old }
 {
-    let number = judgement::judge_told(state, answer.len()).map(|bus| u32::from(bus.paging));
-    judgement::tell(answer, number)
+    let judged = judgement::judge_told(state, answer.len());
+    judgement::tell(answer, judged.map(|bus| u32::from(bus.paging)))
 }
 
 #[tactic(auto, unfolding(contracts::specs::Plain::int_active))]
@@ -42,10 +42,11 @@ pub extern "C" fn ulb_read_7ffd(state: &[u8], answer: &mut [u8]) -> u8
 pub extern "C" fn ulb_int_active(state: &[u8], answer: &mut [u8]) -> u8
     ensures { told result answer.new ≡ int_active state.now answer.old }
 {
-    let number = judgement::judge_told(state, answer.len()).map(|bus| u32::from(machine::int_active(
-        bus.clock,
-    )));
-    judgement::tell(answer, number)
+    let judged = judgement::judge_told(state, answer.len());
+    judgement::tell(
+        answer,
+        judged.map(|bus| u32::from(machine::int_active(bus.clock))),
+    )
 }
 
 // Passed frames.
@@ -54,8 +55,8 @@ pub extern "C" fn ulb_int_active(state: &[u8], answer: &mut [u8]) -> u8
 pub extern "C" fn ulb_frames_count(state: &[u8], answer: &mut [u8]) -> u8
     ensures { told result answer.new ≡ frames_count state.now answer.old }
 {
-    let number = judgement::judge_told(state, answer.len()).map(|bus| bus.passed);
-    judgement::tell(answer, number)
+    let judged = judgement::judge_told(state, answer.len());
+    judgement::tell(answer, judged.map(|bus| bus.passed))
 }
 
 // Passed frames go back to 0; the phase, which times flash and pictures, stays.
