@@ -1,43 +1,19 @@
--- The map's four entries as the code tests them, and single bits of the 7FFD byte as the code masks them.
+-- The blocks whose page is contended, as the code tests them, and single bits of the 7FFD byte as the code masks them.
 -- Assumes nothing.
-use Prim.Native.Nat.{ℕ, zero, suc, ◌+◌, ◌-◌, ◌*◌, ◌/◌, ◌%◌, ◌^◌}
+use Prim.Native.Nat.{ℕ, zero, suc, ◌+◌, ◌-◌, ◌*◌, ◌%◌, ◌^◌}
 use mathlib.Core.Path.{◌≡◌, refl, ap, sym, ◌∙◌}
 use mathlib.Core.Bool.{true, false, ◌&&◌, ◌||◌}
 use native.Mathlib.Nat.{pow-suc}
 use native.Mathlib.Numerals.{one-add}
 use native.Mathlib.Omega.{arith}
-use lib.Bits.{bit_and, and_mask, and_high}
+use lib.Bits.{bit_and, and_high}
 use lib.Dec.{eqb}
 use lib.Pow.{pow_pos}
 use borrow.Author.Tests.{eq-eqb, ne_eqb}
 use Rattle.laws.proofs.Cases.{split}
 use Rattle.machine.specs.declared.ZXMachine.TheVariants.{Sinclair48K, Sinclair128K}
 use Rattle.machine.specs.Contended.{bank_contended}
-use Rattle.memory.specs.declared.Page.TheVariants.{Rom, Ram}
 use Rattle.memory.specs.Paging.{bit, bit_set, page_at, page_contended}
-
--- a 48K block that is none of 1, 2, 3
-pub rest_48 : (paging block : ℕ) → (block ≡ 1 → ⊥) → (block ≡ 2 → ⊥) → (block ≡ 3 → ⊥) → Rom 0 ≡ page_at Sinclair48K paging block
-rest_48 paging zero f g h = refl
-rest_48 paging (suc zero) f g h = absurd (f refl)
-rest_48 paging (suc (suc zero)) f g h = absurd (g refl)
-rest_48 paging (suc (suc (suc zero))) f g h = absurd (h refl)
-rest_48 paging (suc (suc (suc (suc block)))) f g h = refl
-
--- a 128K block that is none of 0 to 3
-pub rest_128 : (paging block : ℕ) → (block ≡ 0 → ⊥) → (block ≡ 1 → ⊥) → (block ≡ 2 → ⊥) → (block ≡ 3 → ⊥) → Rom 0 ≡ page_at Sinclair128K paging block
-rest_128 paging zero e f g h = absurd (e refl)
-rest_128 paging (suc zero) e f g h = absurd (f refl)
-rest_128 paging (suc (suc zero)) e f g h = absurd (g refl)
-rest_128 paging (suc (suc (suc zero))) e f g h = absurd (h refl)
-rest_128 paging (suc (suc (suc (suc block)))) e f g h = refl
-
--- the masks of the ROM bit and of the paged bank
-pub rom_bit : (paging block : ℕ) → block ≡ 0 → Rom (bit_and (paging / 16) 1) ≡ page_at Sinclair128K paging block
-rom_bit paging block e = rw e (ap Rom (and_mask (paging / 16) 1))
-
-pub paged_bank_lem : (paging block : ℕ) → block ≡ 3 → Ram (bit_and paging 7) ≡ page_at Sinclair128K paging block
-paged_bank_lem paging block e = rw e (ap Ram (and_mask paging 3))
 
 -- ---- the blocks whose page is contended: block 1 on both machines, and block 3 of the 128K by its bank
 

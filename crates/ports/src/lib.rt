@@ -1,11 +1,11 @@
 // What it is: the ports of the bus, after controller.rs's read_io, write_io and floating_bus_value: the device record, the key rows, who answers a read, who hears a write, and where the floating bus reads.
-// What it promises: for every record, port and clock the answer is the one that document 01 gives; only the two functions that take the lent 35 bytes ask something, namely that there are 35.
+// What it promises: for every record, port and clock the answer is the one that document 01 gives, and nothing is asked: the lent bytes come as an array of 35.
 // Where its definitions stand: specs/Devices.antt (the 35 bytes), specs/Keys.antt (key rows), specs/Order.antt (port classes, read and write order), specs/Floating.antt (floating bus); specs/Pages.antt has the public pages' words.
 #![tactic(auto)]
 
-ghost use Rattle.std.specs.Prelude.{◌≡◌, ◌+◌, ◌<◌, length, cond};
+ghost use Rattle.std.specs.Prelude.{◌≡◌, ◌+◌, ◌<◌, cond};
 ghost use Rattle.machine.specs.Numbers.{specs_of};
-ghost use Rattle.ports.specs.Devices.{device_of, devices_of, flags_of, devices_length};
+ghost use Rattle.ports.specs.Devices.{device_of, devices_of, flags_of};
 ghost use Rattle.ports.specs.Keys.{selected, row_in, rows_and, keys_read};
 ghost use Rattle.ports.specs.Order.{with_joystick, with_ay, with_mouse, read_order};
 ghost use Rattle.ports.specs.Hearers.{port_hearers, hearers, heard_code, hearers_of};

@@ -8,7 +8,7 @@ use native.Mathlib.Nat.{not-suc-le-zero, le_of_suc-le-suc}
 use native.Mathlib.Numerals.{add-one}
 use native.Mathlib.Omega.{arith}
 use lib.Dec.{eqb}
-use lib.ListN.{length, get_or, take, drop, get_or-eq_default}
+use lib.ListN.{length, get_or, take, drop}
 use lib.Seq.{get_or-take, drop-cons, drop-length}
 use borrow.Author.Tests.{eq-eqb, ne_eqb, eqb-true}
 use Rattle.machine.specs.declared.ZXMachine.{ZXMachine}
@@ -91,9 +91,6 @@ pub once_due : (m : ZXMachine) (byte : ℕ) (twice : Bool) → m ≡ Sinclair128
 unfolding due_size
 once_due m byte twice e t y = rw e (sym (ap (λ (b : Bool). cond b 147487 131103) (rw e at (sym t ∙ y))))
 
-pub short_paging : (m : ZXMachine) (file : List ℕ) → m ≡ Sinclair128K → length file ≤ 49181 → 0 ≡ paging_in m file
-short_paging m file e h = rw e (sym (get_or-eq_default file 0 h))
-
 -- ---- the two copies of a bank that stands twice
 only_128 : (m : ZXMachine) (byte : ℕ) → stands_twice m byte ≡ true → m ≡ Sinclair128K
 only_128 Sinclair48K byte t = absurd (false≢true t)
@@ -112,11 +109,6 @@ copy_2 m byte t f =
     let e = only_128 m byte t in
     let p : byte % 8 ≡ 2 = else_2 (byte % 8) (rw e at t) f in
     rw (order_by m byte 2 e p, p)
-
--- a file in which a bank stands twice
-pub twice_long : (m : ZXMachine) (file : List ℕ) (byte : ℕ) (twice : Bool) → length file ≡ due_size m (paging_in m file) → byte ≡ paging_in m file
-    → twice ≡ stands_twice m byte → twice ≡ true → length file ≡ 147487
-twice_long m file byte twice l b t y = l ∙ ap (due_size m) (sym b) ∙ sym (twice_due m byte twice (only_128 m byte (sym t ∙ y)) t y)
 
 pub differ_is : (m : ZXMachine) (file : List ℕ) (byte at : ℕ) (twice eq : Bool) → byte ≡ paging_in m file → twice ≡ stands_twice m byte → twice ≡ true
     → at ≡ place_start (first_place (paged_bank byte) (banks_in_order m byte)) → eq ≡ same_bytes (take (at + 16384 - at) (drop at file)) (take 16384 (drop 32795 file))

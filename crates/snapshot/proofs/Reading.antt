@@ -37,10 +37,6 @@ few_places Sinclair128K byte = rw length_order (by (stands_twice Sinclair128K by
   by true = omega arith
   by false = omega arith
 
--- a bank that the machine has is one of eight
-pub bank_below : (m : ZXMachine) (last bank : ℕ) → last ≡ last_page m → bank ≤ last → bank < 8
-bank_below m last bank e h = omega (arith, last_below m)
-
 -- the banks of a machine are the first of the eight
 first_banks_lem : (m : ZXMachine) → take (last_page m + 1) (all_banks Sinclair128K) ≡ all_banks m
 first_banks_lem Sinclair48K = refl
