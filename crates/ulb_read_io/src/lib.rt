@@ -6,7 +6,6 @@
 ghost use Rattle.std.specs.Prelude.{◌≡◌};
 ghost use Rattle.contracts.specs.Timed.{lent, outcome, read_io};
 
-
 // A port read.
 #[unsafe(no_mangle)]
 pub extern "C" fn ulb_read_io(

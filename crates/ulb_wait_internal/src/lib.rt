@@ -6,7 +6,6 @@
 ghost use Rattle.std.specs.Prelude.{◌≡◌};
 ghost use Rattle.contracts.specs.Timed.{lent, outcome, wait_internal};
 
-
 // The plain wait.
 #[unsafe(no_mangle)]
 pub extern "C" fn ulb_wait_internal(

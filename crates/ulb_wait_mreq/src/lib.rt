@@ -6,7 +6,6 @@
 ghost use Rattle.std.specs.Prelude.{◌≡◌};
 ghost use Rattle.contracts.specs.Timed.{lent, outcome, wait_at};
 
-
 // A wait at an address with a memory request.
 #[unsafe(no_mangle)]
 pub extern "C" fn ulb_wait_mreq(

@@ -6,7 +6,6 @@
 ghost use Rattle.std.specs.Prelude.{◌≡◌};
 ghost use Rattle.contracts.specs.Timed.{lent, outcome, write_io};
 
-
 // A port write.
 #[unsafe(no_mangle)]
 pub extern "C" fn ulb_write_io(
