@@ -44,7 +44,7 @@ class Code:
         text = re.sub(r"//[^\n]*", "", text)
         self.names = set(re.findall(r"\b(?:fn|struct|enum|const)\s+(\w+)", text))
         self.members = {}
-        for kind, owner, body in re.findall(r"^(impl|enum|pub enum)\s+(\w+)\s*\{(.*?)^\}", text, flags=re.S | re.M):
+        for kind, owner, body in re.findall(r"^(impl|enum|pub enum)(?:<[^>]*>)?\s+(\w+)(?:<[^>]*>)?\s*\{(.*?)^\}", text, flags=re.S | re.M):
             found = r"\bfn\s+(\w+)" if kind == "impl" else r"^    (\w+)\b"
             self.members.setdefault(owner, set()).update(re.findall(found, body, flags=re.M))
 
