@@ -10,6 +10,7 @@ use Rattle.machine.specs.declared.ZXMachine.{ZXMachine}
 use Rattle.memory.specs.declared.Paged.{Paged}
 use Rattle.memory.specs.declared.Paged.TheVariants as paging
 use Rattle.memory.specs.Paging.{write7ffd, paged_code, paging_after}
+use Rattle.ports.specs.declared.Devices.{Devices}
 use Rattle.ports.specs.declared.Written.{Written}
 use Rattle.ports.specs.declared.Written.TheVariants as written
 use Rattle.ports.specs.Hearers as hearer
@@ -18,10 +19,10 @@ use Rattle.steps.specs.declared.Turning.{Turning}
 use Rattle.bus.specs.World.{Core}
 use Rattle.bus.specs.Time.{tick, in_core, in_screen, in_edge}
 use Rattle.bus.specs.Turns.{Turn, turned, ran, clocks_of, blocks_of, closed_by, core_after, Part, and_then, ran_by}
-use Rattle.bus.specs.Calls.{first_part, last_part, final_step, paging_ops, paging_write, acted_on}
-use Rattle.bus.specs.Clocks.{first_clocks, last_clocks}
+use Rattle.bus.specs.Calls.{first_part, last_part, final_step, paging_ops, paging_write, acted_on, port_write, write_code}
+use Rattle.bus.specs.Clocks.{first_clocks, last_clocks, part_clocks}
 use Rattle.bus.proofs.Runs.{acts_alone}
-use Rattle.bus.proofs.PortSteps.{first_small, step_paging, first_step, last_final}
+use Rattle.bus.proofs.PortSteps.{first_small, step_paging, first_step, last_final, quiet_step}
 use Rattle.steps.specs.Turned.{turn_of, Ready}
 use Rattle.contention.proofs.CodeReady.{ready_less, ready_paging, ready_step}
 use Rattle.calls.specs.Paged.{paged_write}
@@ -134,3 +135,23 @@ module _ (t : Turn) (port v : ℕ) where
         first_step t r.in_frame r.in_place port,
         step_paging t.machine first t.world (omega arith) r.in_frame,
       )
+
+-- A port write by who hears it: one that the bus does not hear is all its steps at once, and the code that it gives is its own, as the border's is.
+module _ (t : Turn) (d : Devices) (port v : ℕ) (w : Written) (heard : hearers_of w ≡ hearers t.machine d port) where
+  by_hearer : (h : Written) → w ≡ h → (u : Turn)
+      → u ≡ ran_by (and_then t.machine (first_part t.machine port) (and_then t.machine (acted_on t.machine (hearers_of h) v) (and_then t.machine (last_part t.machine port) final_step))) t
+      → u ≡ ran_by (port_write t.machine d port v) t
+  by_hearer h e u p = rw (← heard, e) p
+
+  module _ (r : Ready t 2 28) (u : Turn) where
+    pub quiet_write : Quiet w → u ≡ turned (tick (part_clocks t.machine t.world.core.paging port t.world.core.clock + 1)) t
+        → u ≡ ran_by (port_write t.machine d port v) t
+    quiet_write q p = by_hearer w refl u (p ∙ sym (quiet_step t r.in_frame r.in_place port (acted_on t.machine (hearers_of w) v) (quiet_ops w q t.machine v)))
+
+  pub quiet_code : Quiet w → (k : ℕ) → k ≡ heard_code (hearers_of w) 0 → k ≡ write_code t.machine d port v t.world.core
+  unfolding write_code
+  quiet_code q k e = rw (← heard) (e ∙ quiet_same w q _)
+
+  pub border_code : w ≡ written.Border → 4 ≡ write_code t.machine d port v t.world.core
+  unfolding write_code
+  border_code e = rw (← heard, e)

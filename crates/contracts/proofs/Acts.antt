@@ -8,6 +8,7 @@ use mathlib.Core.Path.{◌≡◌, refl, sym, ◌∙◌, ap, subst}
 use native.Mathlib.Omega.{arith}
 use lib.ListN.{length}
 use borrow.Author.Tests.{eqb-false, ltb-false}
+use Rattle.std.specs.Prelude.{Result, Ok}
 use Rattle.laws.proofs.Cases.{by_bool}
 use Rattle.machine.specs.declared.ZXMachine.{ZXMachine}
 use Rattle.machine.specs.declared.ZXMachine.TheVariants.{Sinclair48K, Sinclair128K}
@@ -32,8 +33,7 @@ use Rattle.bus.proofs.TimedCalls.{TimedPart, plain_timed, address_timed, read_ti
 use Rattle.bus.proofs.Lengths.{SameLengths, lengths_kept, call_lengths}
 use Rattle.bus.proofs.Kept.{SoundWorld, InRange, op_kept, call_kept}
 use Rattle.bus.proofs.Reports.{call_fits}
-use Rattle.judgement.specs.declared.Verdict.{Verdict}
-use Rattle.judgement.specs.declared.Verdict.TheVariants.{Accepted}
+use Rattle.judgement.specs.declared.Refusal.{Refusal}
 use Rattle.judgement.specs.Answers.{timed_answer}
 use Rattle.judgement.specs.Order.{NoneHolds}
 use Rattle.judgement.proofs.Order.{state_ordered, wait_ordered, port_ordered, told_ordered, write_ordered, load_ordered, load_scr_ordered}
@@ -85,11 +85,11 @@ module _ (m : ZXMachine) (w : World) (sound : SoundWorld m w) (sized : Sized m w
     waited_is : waited t l answer ≡ timed_end (ran_by (timed_ops t m) (fresh m w)) (timed_value t m w.core)
     unfolding waited wait_internal wait_at read_io write_io timed_call
     waited_is = by t h where
-      wait : (k : ℕ) → NoneHolds (timed_causes (plain k) l answer) → judge_wait_of l k answer ≡ Accepted (bus_of m w)
-      wait k h = (wait_ordered l.state (length l.ram) (length l.a) (length l.b) (length l.border) k (length answer)).none_accepts h ∙ ap Accepted here
+      wait : (k : ℕ) → NoneHolds (timed_causes (plain k) l answer) → judge_wait_of l k answer ≡ Ok (bus_of m w)
+      wait k h = (wait_ordered l.state (length l.ram) (length l.a) (length l.b) (length l.border) k (length answer)).none_accepts h ∙ ap Ok here
 
-      port : (devices : List ℕ) → NoneHolds (timed_causes (port_in devices 0) l answer) → judge_port_of l devices answer ≡ Accepted (bus_of m w)
-      port devices h = (port_ordered l.state devices (length l.ram) (length l.a) (length l.b) (length l.border) (length answer)).none_accepts h ∙ ap Accepted here
+      port : (devices : List ℕ) → NoneHolds (timed_causes (port_in devices 0) l answer) → judge_port_of l devices answer ≡ Ok (bus_of m w)
+      port devices h = (port_ordered l.state devices (length l.ram) (length l.a) (length l.b) (length l.border) (length answer)).none_accepts h ∙ ap Ok here
 
       by : (t : TimedCall) → NoneHolds (timed_causes t l answer) → waited t l answer ≡ timed_end (ran_by (timed_ops t m) (fresh m w)) (timed_value t m w.core)
       by (plain k) h = ap (timed_call (timed_ops (plain k)) (timed_value (plain k)) l answer) (wait k h)
@@ -182,7 +182,7 @@ module _ (m : ZXMachine) (w : World) (sound : SoundWorld m w) (sized : Sized m w
       let new : Bus → List ℕ = λ bus. poked bus.machine bus.paging w.core.ram addr value in
       record {
         slices =
-            ap (λ (v : Verdict). with_ram l (change new w.core.ram v).slice) ((write_ordered l.state (length l.ram)).none_accepts h ∙ ap Accepted here)
+            ap (λ (v : Result Bus Refusal). with_ram l (change new w.core.ram v).slice) ((write_ordered l.state (length l.ram)).none_accepts h ∙ ap Ok here)
             ∙ poke_world p value;
         kept = poke_kept p value;
       }
@@ -205,14 +205,14 @@ module _ (m : ZXMachine) (w : World) (sound : SoundWorld m w) (sized : Sized m w
   unfolding performed ops_of load_page
   load_acted bytes page h =
       stored_acted (load_ram bytes page) bytes page refl
-      (ap (λ (v : Verdict). with_ram l (change (λ bus. loaded page bytes w.core.ram) w.core.ram v).slice)
+      (ap (λ (v : Result Bus Refusal). with_ram l (change (λ bus. loaded page bytes w.core.ram) w.core.ram v).slice)
       ((load_ordered l.state (length l.ram) (length bytes) page).none_accepts h))
 
   screen_acted : (file : List ℕ) (page : ℕ) → NoneHolds (causes_of (load_screen file page) l) → Acted (load_screen file page)
   unfolding performed ops_of load_scr
   screen_acted file page h =
       stored_acted (load_screen file page) file page refl
-      (ap (λ (v : Verdict). with_ram l (change (λ bus. loaded page file w.core.ram) w.core.ram v).slice)
+      (ap (λ (v : Result Bus Refusal). with_ram l (change (λ bus. loaded page file w.core.ram) w.core.ram v).slice)
       ((load_scr_ordered l.state (length l.ram) (length file) page).none_accepts h))
 
   reset_world : with_state l (record_bytes (with_passed 0 (bus_of m w))) ≡ lent_by m (world_after m (silent unpass ∷ []) w)
@@ -224,7 +224,7 @@ module _ (m : ZXMachine) (w : World) (sound : SoundWorld m w) (sized : Sized m w
   reset_acted h =
       let new : Bus → List ℕ = λ bus. record_bytes (with_passed 0 bus) in
       record {
-        slices = ap (λ (v : Verdict). with_state l (change new l.state v).slice) ((state_ordered l.state).none_accepts h ∙ ap Accepted here) ∙ reset_world;
+        slices = ap (λ (v : Result Bus Refusal). with_state l (change new l.state v).slice) ((state_ordered l.state).none_accepts h ∙ ap Ok here) ∙ reset_world;
         kept = one_kept (silent unpass) tt refl;
       }
 
@@ -246,7 +246,7 @@ module _ (m : ZXMachine) (w : World) (sound : SoundWorld m w) (sized : Sized m w
       let p = write7ffd m w.core.paging v in
       record {
         slices =
-            ap (λ (x : Verdict). with_state l (repage v l.state answer x).state) ((told_ordered l.state (length answer)).none_accepts h ∙ ap Accepted here)
+            ap (λ (x : Result Bus Refusal). with_state l (repage v l.state answer x).state) ((told_ordered l.state (length answer)).none_accepts h ∙ ap Ok here)
             ∙ paged_world p;
         kept = paged_kept v byte p (takes m w.core.paging v);
       }

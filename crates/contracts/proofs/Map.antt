@@ -9,6 +9,7 @@ use native.Mathlib.Omega.{arith}
 use borrow.Author.Tests.{le-ltb}
 use lib.ListN.{length, get_or, get_or-append}
 use lib.Seq.{get_or-append-add}
+use Rattle.std.specs.Prelude.{Result, Ok, Err}
 use Rattle.laws.proofs.Cases.{by_bool}
 use Rattle.machine.specs.declared.ZXMachine.{ZXMachine}
 use Rattle.machine.specs.declared.ZXMachine.TheVariants.{Sinclair48K, Sinclair128K}
@@ -37,8 +38,7 @@ use Rattle.bus.specs.Time.{Op, closes, in_core}
 use Rattle.bus.specs.Turns.{core_after, fresh, Part, and_then, ran_by}
 use Rattle.bus.specs.Calls.{contended, plain_wait, delayed, address_wait, first_part, delay_step, last_part, final_step, read_before, port_read, paging_ops, acted_on, port_write, write_code}
 use Rattle.bus.proofs.Runs.{ran_machine, ran_core, core_then, acts_alone}
-use Rattle.judgement.specs.declared.Verdict.{Verdict}
-use Rattle.judgement.specs.declared.Verdict.TheVariants.{Refused, Accepted}
+use Rattle.judgement.specs.declared.Refusal.{Refusal}
 use Rattle.judgement.specs.Judges.{judge_state, judge_told, judge_read, number_fits, judge_ram_page, judge_block}
 use Rattle.judgement.specs.Answers.{number_answer}
 use Rattle.judgement.specs.Ready.{OnRecord}
@@ -62,7 +62,7 @@ page_counted m (page.Ram p) rom ram offset h n f =
     rw e (sym (get_or-append-add rom ram (16384 * p + offset) 0))
 
 -- the number that an accepted call tells
-number_told : (number : Bus → ℕ) (answer : List ℕ) (v : Verdict) (bus : Bus) → v ≡ Accepted bus → number bus < 2 ^ 32
+number_told : (number : Bus → ℕ) (answer : List ℕ) (v : Result Bus Refusal) (bus : Bus) → v ≡ Ok bus → number bus < 2 ^ 32
     → number_in (tell number answer v).answer ≡ number bus
 number_told number answer v bus p h = rw p (number_back (number bus) h)
 
@@ -97,10 +97,10 @@ module _ (held rom ram : List ℕ) (addr : ℕ) (answer : List ℕ) (accepted : 
   abbrev reads : Bus → ℕ
   reads bus = peeked bus.machine bus.paging rom ram addr
 
-  abbrev verdict : Verdict
+  abbrev verdict : Result Bus Refusal
   verdict = judge_read held (length rom) (length ram) (length answer)
 
-  verdict_bus : (bus : Bus) × (verdict ≡ Accepted bus)
+  verdict_bus : (bus : Bus) × (verdict ≡ Ok bus)
   unfolding read_internal
   verdict_bus = told_bus reads answer verdict accepted
 
@@ -158,9 +158,9 @@ module _ (made held rom ram answer : List ℕ) (block start offset : ℕ) (insid
       )
 
 -- ---- a read by a part, as a Rattle caller gets it
-handed : (whole : Bus → List ℕ) (v : Verdict) → (part whole v ≡ [] → ⊥) → (bus : Bus) × (v ≡ Accepted bus)
-handed whole (Refused e) n = absurd (n refl)
-handed whole (Accepted bus) n = (bus, refl)
+handed : (whole : Bus → List ℕ) (v : Result Bus Refusal) → (part whole v ≡ [] → ⊥) → (bus : Bus) × (v ≡ Ok bus)
+handed whole (Err e) n = absurd (n refl)
+handed whole (Ok bus) n = (bus, refl)
 
 module _ (made held rom ram answer : List ℕ) (block offset : ℕ) (inside : offset < 16384)
     (accepted : (read_internal held rom ram (16384 * block + offset) answer).code ≡ 0) where
@@ -311,12 +311,12 @@ module _ (m : ZXMachine) where
 -- ---- call by call
 
 module _ (part : ZXMachine → Part) (value : ZXMachine → Core → ℕ) (l : Lent) (answer : List ℕ) where
-  timed_alike : (v : Verdict) → ((bus : Bus) → v ≡ Accepted bus → OnRecord l.state bus)
-      → ((bus : Bus) → v ≡ Accepted bus → Leaves bus.machine (lent_world bus l).core (part bus.machine (lent_world bus l).core))
+  timed_alike : (v : Result Bus Refusal) → ((bus : Bus) → v ≡ Ok bus → OnRecord l.state bus)
+      → ((bus : Bus) → v ≡ Ok bus → Leaves bus.machine (lent_world bus l).core (part bus.machine (lent_world bus l).core))
       → Alike l.state (timed_call part value l answer v).slices.state
   unfolding timed_call
-  timed_alike (Refused e) r k = alike_same l.state
-  timed_alike (Accepted bus) r k =
+  timed_alike (Err e) r k = alike_same l.state
+  timed_alike (Ok bus) r k =
       let m = bus.machine in
       let w = lent_world bus l in
       let t = ran_by (part m) (fresh m w) in
@@ -324,11 +324,11 @@ module _ (part : ZXMachine → Part) (value : ZXMachine → Core → ℕ) (l : L
       (ran_machine (part m w.core) (fresh m w))
       (ap (λ (c : Core). c.paging) (ran_core (part m w.core) (fresh m w)) ∙ k bus refl)
 
-wait_record : (l : Lent) (clocks : ℕ) (answer : List ℕ) (bus : Bus) → judge_wait_of l clocks answer ≡ Accepted bus → OnRecord l.state bus
+wait_record : (l : Lent) (clocks : ℕ) (answer : List ℕ) (bus : Bus) → judge_wait_of l clocks answer ≡ Ok bus → OnRecord l.state bus
 wait_record l clocks answer bus p =
     (ready_wait l.state bus (length l.ram) (length l.a) (length l.b) (length l.border) clocks (length answer) p).on_record
 
-port_record : (l : Lent) (devices answer : List ℕ) (bus : Bus) → judge_port_of l devices answer ≡ Accepted bus → OnRecord l.state bus
+port_record : (l : Lent) (devices answer : List ℕ) (bus : Bus) → judge_port_of l devices answer ≡ Ok bus → OnRecord l.state bus
 port_record l devices answer bus p =
     (ready_port l.state bus devices (length l.ram) (length l.a) (length l.b) (length l.border) (length answer) p).on_record
 
@@ -365,10 +365,10 @@ not_repaged paging.Absent held n = refl
 not_repaged paging.Locked held n = refl
 not_repaged (paging.Taken v) held n = absurd (n refl)
 
-repage_alike : (state answer : List ℕ) (value : ℕ) (v : Verdict) → ((bus : Bus) → v ≡ Accepted bus → OnRecord state bus)
+repage_alike : (state answer : List ℕ) (value : ℕ) (v : Result Bus Refusal) → ((bus : Bus) → v ≡ Ok bus → OnRecord state bus)
     → ((repage value state answer v).code ≡ 0 → number_in (repage value state answer v).answer ≡ renews → ⊥) → Alike state (repage value state answer v).state
-repage_alike state answer value (Refused e) r n = alike_same state
-repage_alike state answer value (Accepted bus) r n =
+repage_alike state answer value (Err e) r n = alike_same state
+repage_alike state answer value (Ok bus) r n =
     let p = write7ffd bus.machine bus.paging value in
     alike_written state bus (with_paging (paging_after p bus.paging) bus) (r bus refl) refl (not_repaged p bus.paging (n refl))
 
@@ -379,10 +379,10 @@ unfolding write7ffd_call
 write_7ffd_alike state value answer n =
     repage_alike state answer value (judge_told state (length answer)) (λ bus p. (ready_told state bus (length answer) p).on_record) n
 
-reset_alike : (state : List ℕ) (v : Verdict) → ((bus : Bus) → v ≡ Accepted bus → OnRecord state bus)
+reset_alike : (state : List ℕ) (v : Result Bus Refusal) → ((bus : Bus) → v ≡ Ok bus → OnRecord state bus)
     → Alike state (change (λ bus. record_bytes (with_passed 0 bus)) state v).slice
-reset_alike state (Refused e) r = alike_same state
-reset_alike state (Accepted bus) r = alike_written state bus (with_passed 0 bus) (r bus refl) refl refl
+reset_alike state (Err e) r = alike_same state
+reset_alike state (Ok bus) r = alike_written state bus (with_passed 0 bus) (r bus refl) refl refl
 
 pub reset_frames_alike : (state : List ℕ) → Alike state (reset_frames state).slice
 unfolding reset_frames

@@ -10,6 +10,7 @@ use native.Mathlib.Omega.{arith}
 use borrow.Author.Tests.{eq-eqb}
 use lib.ListN.{length, take, drop}
 use lib.Seq.{take_at, drop_at, take-length}
+use Rattle.std.specs.Prelude.{Result, Ok, Err}
 use Rattle.laws.proofs.Words.{long_back}
 use Rattle.machine.specs.declared.ZXMachine.{ZXMachine}
 use Rattle.machine.specs.declared.ZXMachine.TheVariants.{Sinclair48K, Sinclair128K}
@@ -24,8 +25,7 @@ use Rattle.memory.specs.Memory.{Holds, ram_page, page_part, part_start}
 use Rattle.memory.proofs.Places.{exists_fits, map_holds}
 use Rattle.memory.proofs.Stored.{length_part, part_found}
 use Rattle.bus.specs.Time.{shows_a}
-use Rattle.judgement.specs.declared.Verdict.{Verdict}
-use Rattle.judgement.specs.declared.Verdict.TheVariants.{Refused, Accepted}
+use Rattle.judgement.specs.declared.Refusal.{Refusal}
 use Rattle.judgement.specs.Judges.{number_fits, judge_ram_page, judge_block, judge_shown}
 use Rattle.judgement.specs.Answers.{number_answer, number_length}
 use Rattle.judgement.proofs.Accepted.{ready_ram_page, ready_block, ready_shown}
@@ -36,15 +36,15 @@ use Rattle.contracts.proofs.Refusals.{not_zero}
 pub number_back : (n : ℕ) → n < 2 ^ 32 → number_in (number_answer n) ≡ n
 number_back n h = long_back n h
 
-pub told_bus : (number : Bus → ℕ) (answer : List ℕ) (w : Verdict) → (tell number answer w).code ≡ 0 → (bus : Bus) × (w ≡ Accepted bus)
-told_bus number answer (Refused e) p = absurd (not_zero e p)
-told_bus number answer (Accepted bus) p = (bus, refl)
+pub told_bus : (number : Bus → ℕ) (answer : List ℕ) (w : Result Bus Refusal) → (tell number answer w).code ≡ 0 → (bus : Bus) × (w ≡ Ok bus)
+told_bus number answer (Err e) p = absurd (not_zero e p)
+told_bus number answer (Ok bus) p = (bus, refl)
 
 -- C's verdict is the Rattle caller's where its answer has five bytes: then a call that is not told hands back nothing
-none_handed : (number : Bus → ℕ) (whole : Bus → List ℕ) (answer : List ℕ) (v w : Verdict) → v ≡ w
+none_handed : (number : Bus → ℕ) (whole : Bus → List ℕ) (answer : List ℕ) (v w : Result Bus Refusal) → v ≡ w
     → ((tell number answer w).code ≡ 0 → ⊥) → part whole v ≡ []
-none_handed number whole answer (Refused e) w f n = refl
-none_handed number whole answer (Accepted b) w f n = absurd (n (rw (← f)))
+none_handed number whole answer (Err e) w f n = refl
+none_handed number whole answer (Ok b) w f n = absurd (n (rw (← f)))
 
 -- ---- where a page starts fits 32 bits
 pub start_small : (m : ZXMachine) (p : Page) → Holds p (specs_of m).rom (specs_of m).ram → part_start m p < 2 ^ 32
@@ -73,10 +73,10 @@ module _ (state ram answer : List ℕ) (number : ℕ) where
   abbrev ram_page_start : Bus → ℕ
   ram_page_start bus = part_start bus.machine (page.Ram number)
 
-  abbrev ram_page_verdict : Bool → Verdict
+  abbrev ram_page_verdict : Bool → Result Bus Refusal
   ram_page_verdict fits = judge_ram_page state (length ram) number fits
 
-  ram_page_told_lem : (bus : Bus) → ram_page_verdict (number_fits (length answer)) ≡ Accepted bus → (rom : List ℕ) → length rom ≡ (specs_of (record_of state).machine).rom
+  ram_page_told_lem : (bus : Bus) → ram_page_verdict (number_fits (length answer)) ≡ Ok bus → (rom : List ℕ) → length rom ≡ (specs_of (record_of state).machine).rom
       → (ram_page_part state ram number ≡ take page_length (drop (number_in (ram_page_told state ram number answer).answer) (rom ++ ram)))
       × (length (ram_page_part state ram number) ≡ page_length)
   unfolding ram_page_told ram_page_part
@@ -105,10 +105,10 @@ module _ (state rom ram answer : List ℕ) (number : ℕ) where
   abbrev block_start : Bus → ℕ
   block_start bus = part_start bus.machine (page_at bus.machine bus.paging number)
 
-  abbrev block_verdict : Bool → Verdict
+  abbrev block_verdict : Bool → Result Bus Refusal
   block_verdict fits = judge_block state (length rom) (length ram) number fits
 
-  block_told_lem : (bus : Bus) → block_verdict (number_fits (length answer)) ≡ Accepted bus
+  block_told_lem : (bus : Bus) → block_verdict (number_fits (length answer)) ≡ Ok bus
       → (block_part state rom ram number ≡ take page_length (drop (number_in (block_told state rom ram number answer).answer) (rom ++ ram)))
       × (length (block_part state rom ram number) ≡ page_length)
   unfolding block_told block_part
@@ -136,10 +136,10 @@ module _ (state a b answer : List ℕ) where
   abbrev shown_start : Bus → ℕ
   shown_start bus = cond (shows_a bus.phase) 0 picture_length
 
-  abbrev shown_verdict : Bool → Verdict
+  abbrev shown_verdict : Bool → Result Bus Refusal
   shown_verdict fits = judge_shown state (length a) (length b) fits
 
-  shown_told_lem : (bus : Bus) → shown_verdict (number_fits (length answer)) ≡ Accepted bus
+  shown_told_lem : (bus : Bus) → shown_verdict (number_fits (length answer)) ≡ Ok bus
       → (shown_part state a b ≡ take picture_length (drop (number_in (shown_told state a b answer).answer) (a ++ b))) × (length (shown_part state a b) ≡ picture_length)
   unfolding shown_told shown_part
   shown_told_lem bus p =

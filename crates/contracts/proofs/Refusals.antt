@@ -9,6 +9,7 @@ use mathlib.Core.List.{List, [], ◌∷◌}
 use native.Mathlib.Omega.{arith}
 use lib.Dec.{leb}
 use lib.ListN.{length, get_or}
+use Rattle.std.specs.Prelude.{Result, Ok, Err}
 use Rattle.machine.specs.declared.ZXMachine.{ZXMachine}
 use Rattle.machine.specs.declared.ZXMachine.TheVariants.{Sinclair48K}
 use Rattle.record.specs.declared.Bus.{Bus}
@@ -21,8 +22,6 @@ use Rattle.screen.specs.Address.{is_attribute}
 use Rattle.screen.specs.Colour.{colour_of, colour_number}
 use Rattle.judgement.specs.declared.Refusal.{Refusal}
 use Rattle.judgement.specs.declared.Refusal.TheVariants.{BadMachine, BadLength, Unsound, BadFlag, LongWait, FramesFull, BadPage, NoVideoPage, BadNumber, WrongSize, UnequalCopies}
-use Rattle.judgement.specs.declared.Verdict.{Verdict}
-use Rattle.judgement.specs.declared.Verdict.TheVariants.{Refused, Accepted}
 use Rattle.judgement.specs.Refusals.{refusal_number, Cause, cause, judged}
 use Rattle.judgement.specs.Judges.{number_fits, unless, no_causes, wait_causes, port_causes, told_causes, read_causes, write_causes, load_causes, ram_page_causes, block_causes, shown_causes, still_causes, save_scr_causes, load_scr_causes, save_sna_causes, judge_state, judge_told, judge_read, judge_write, judge_load, judge_ram_page, judge_block, judge_shown, judge_still, judge_save_scr, judge_load_scr, judge_save_sna}
 use Rattle.judgement.specs.Answers.{refused_answer, timed_length, number_length}
@@ -69,16 +68,16 @@ not_zero BadNumber p = omega arith
 not_zero WrongSize p = omega arith
 not_zero UnequalCopies p = omega arith
 
-zero_accepts : (v : Verdict) → code_of v ≡ 0 → (bus : Bus) × (v ≡ Accepted bus)
-zero_accepts (Refused e) p = absurd (not_zero e p)
-zero_accepts (Accepted bus) p = (bus, refl)
+zero_accepts : (v : Result Bus Refusal) → code_of v ≡ 0 → (bus : Bus) × (v ≡ Ok bus)
+zero_accepts (Err e) p = absurd (not_zero e p)
+zero_accepts (Ok bus) p = (bus, refl)
 
-number_refuses : (v : Verdict) (e : Refusal) → code_of v ≡ refusal_number e → v ≡ Refused e
-number_refuses (Refused f) e p = ap Refused (same_refusal f e p)
-number_refuses (Accepted bus) e p = absurd (not_zero e (sym p))
+number_refuses : (v : Result Bus Refusal) (e : Refusal) → code_of v ≡ refusal_number e → v ≡ Err e
+number_refuses (Err f) e p = ap Err (same_refusal f e p)
+number_refuses (Ok bus) e p = absurd (not_zero e (sym p))
 
 -- the number of an ordered verdict
-numbered : (v : Verdict) (causes : List Cause) (bus : Bus) (code : ℕ) → code ≡ code_of v → Ordered v causes bus → Numbered code causes
+numbered : (v : Result Bus Refusal) (causes : List Cause) (bus : Bus) (code : ℕ) → code ≡ code_of v → Ordered v causes bus → Numbered code causes
 numbered v causes bus code c o =
     record {
       stand = o.stand;
@@ -90,44 +89,44 @@ numbered v causes bus code c o =
 
 -- ---- each form of a call, by its verdict
 module _ (part : ZXMachine → Part) (value : ZXMachine → Core → ℕ) (l : Lent) (answer : List ℕ) where
-  timed_code : (v : Verdict) (o : Outcome) → o ≡ timed_call part value l answer v → o.code ≡ code_of v
+  timed_code : (v : Result Bus Refusal) (o : Outcome) → o ≡ timed_call part value l answer v → o.code ≡ code_of v
   unfolding timed_call
-  timed_code (Refused e) o p = ap (λ (x : Outcome). x.code) p
-  timed_code (Accepted bus) o p = ap (λ (x : Outcome). x.code) p
+  timed_code (Err e) o p = ap (λ (x : Outcome). x.code) p
+  timed_code (Ok bus) o p = ap (λ (x : Outcome). x.code) p
 
-  timed_kept : (v : Verdict) (o : Outcome) → o ≡ timed_call part value l answer v → (o.code ≡ 0 → ⊥)
+  timed_kept : (v : Result Bus Refusal) (o : Outcome) → o ≡ timed_call part value l answer v → (o.code ≡ 0 → ⊥)
       → (o.slices ≡ l) × (o.answer ≡ refused_answer timed_length o.code answer)
   unfolding timed_call
-  timed_kept (Refused e) o p n = rw p (refl, refl)
-  timed_kept (Accepted bus) o p n = absurd (n (ap (λ (x : Outcome). x.code) p))
+  timed_kept (Err e) o p n = rw p (refl, refl)
+  timed_kept (Ok bus) o p n = absurd (n (ap (λ (x : Outcome). x.code) p))
 
 module _ (number : Bus → ℕ) (answer : List ℕ) where
-  told_code : (v : Verdict) (o : Told) → o ≡ tell number answer v → o.code ≡ code_of v
-  told_code (Refused e) o p = ap (λ (x : Told). x.code) p
-  told_code (Accepted bus) o p = ap (λ (x : Told). x.code) p
+  told_code : (v : Result Bus Refusal) (o : Told) → o ≡ tell number answer v → o.code ≡ code_of v
+  told_code (Err e) o p = ap (λ (x : Told). x.code) p
+  told_code (Ok bus) o p = ap (λ (x : Told). x.code) p
 
-  told_kept : (v : Verdict) (o : Told) → o ≡ tell number answer v → (o.code ≡ 0 → ⊥) → o.answer ≡ refused_answer number_length o.code answer
-  told_kept (Refused e) o p n = rw p
-  told_kept (Accepted bus) o p n = absurd (n (ap (λ (x : Told). x.code) p))
+  told_kept : (v : Result Bus Refusal) (o : Told) → o ≡ tell number answer v → (o.code ≡ 0 → ⊥) → o.answer ≡ refused_answer number_length o.code answer
+  told_kept (Err e) o p n = rw p
+  told_kept (Ok bus) o p n = absurd (n (ap (λ (x : Told). x.code) p))
 
 module _ (new : Bus → List ℕ) (old : List ℕ) where
-  changed_code : (v : Verdict) (o : Changed) → o ≡ change new old v → o.code ≡ code_of v
-  changed_code (Refused e) o p = ap (λ (x : Changed). x.code) p
-  changed_code (Accepted bus) o p = ap (λ (x : Changed). x.code) p
+  changed_code : (v : Result Bus Refusal) (o : Changed) → o ≡ change new old v → o.code ≡ code_of v
+  changed_code (Err e) o p = ap (λ (x : Changed). x.code) p
+  changed_code (Ok bus) o p = ap (λ (x : Changed). x.code) p
 
-  changed_kept : (v : Verdict) (o : Changed) → o ≡ change new old v → (o.code ≡ 0 → ⊥) → o.slice ≡ old
-  changed_kept (Refused e) o p n = rw p
-  changed_kept (Accepted bus) o p n = absurd (n (ap (λ (x : Changed). x.code) p))
+  changed_kept : (v : Result Bus Refusal) (o : Changed) → o ≡ change new old v → (o.code ≡ 0 → ⊥) → o.slice ≡ old
+  changed_kept (Err e) o p n = rw p
+  changed_kept (Ok bus) o p n = absurd (n (ap (λ (x : Changed). x.code) p))
 
 module _ (value : ℕ) (state answer : List ℕ) where
-  repaged_code : (v : Verdict) (o : Repaged) → o ≡ repage value state answer v → o.code ≡ code_of v
-  repaged_code (Refused e) o p = ap (λ (x : Repaged). x.code) p
-  repaged_code (Accepted bus) o p = ap (λ (x : Repaged). x.code) p
+  repaged_code : (v : Result Bus Refusal) (o : Repaged) → o ≡ repage value state answer v → o.code ≡ code_of v
+  repaged_code (Err e) o p = ap (λ (x : Repaged). x.code) p
+  repaged_code (Ok bus) o p = ap (λ (x : Repaged). x.code) p
 
-  repaged_kept : (v : Verdict) (o : Repaged) → o ≡ repage value state answer v → (o.code ≡ 0 → ⊥)
+  repaged_kept : (v : Result Bus Refusal) (o : Repaged) → o ≡ repage value state answer v → (o.code ≡ 0 → ⊥)
       → (o.state ≡ state) × (o.answer ≡ refused_answer number_length o.code answer)
-  repaged_kept (Refused e) o p n = rw p (refl, refl)
-  repaged_kept (Accepted bus) o p n = absurd (n (ap (λ (x : Repaged). x.code) p))
+  repaged_kept (Err e) o p n = rw p (refl, refl)
+  repaged_kept (Ok bus) o p n = absurd (n (ap (λ (x : Repaged). x.code) p))
 
 -- ---- every call
 pub wait_internal_numbered : (l : Lent) (clocks : ℕ) (answer : List ℕ) → Numbered (wait_internal l clocks answer).code (all_causes l.state (wait_causes (length l.ram) (length l.a) (length l.b) (length l.border) clocks (length answer)))
@@ -297,21 +296,21 @@ two_numbered causes code bus c s = numbered (judged causes bus) causes bus code 
 
 -- ---- start
 module _ (l new : Lent) where
-  pub begun_code : (v : Verdict) → (begun l new v).code ≡ code_of v
+  pub begun_code : (v : Result Bus Refusal) → (begun l new v).code ≡ code_of v
   unfolding begun
-  begun_code (Refused e) = refl
-  begun_code (Accepted bus) = refl
+  begun_code (Err e) = refl
+  begun_code (Ok bus) = refl
 
-  begun_kept : (v : Verdict) → ((begun l new v).code ≡ 0 → ⊥) → (begun l new v).slices ≡ l
+  begun_kept : (v : Result Bus Refusal) → ((begun l new v).code ≡ 0 → ⊥) → (begun l new v).slices ≡ l
   unfolding begun
-  begun_kept (Refused e) n = refl
-  begun_kept (Accepted bus) n = absurd (n refl)
+  begun_kept (Err e) n = refl
+  begun_kept (Ok bus) n = absurd (n refl)
 
   -- an accepted one leaves the new slices
-  pub begun_left : (v : Verdict) → (begun l new v).code ≡ 0 → (begun l new v).slices ≡ new
+  pub begun_left : (v : Result Bus Refusal) → (begun l new v).code ≡ 0 → (begun l new v).slices ≡ new
   unfolding begun
-  begun_left (Refused e) z = absurd (not_zero e z)
-  begun_left (Accepted bus) z = refl
+  begun_left (Err e) z = absurd (not_zero e z)
+  begun_left (Ok bus) z = refl
 
 module _ (l : Lent) (machine : ℕ) where
   -- the slices of the machine as it begins
@@ -339,10 +338,10 @@ module _ (l : Lent) (machine : ℕ) where
 
 -- ---- an import
 -- the registers go by the same verdict
-registers_kept : (l new : Lent) (filled registers : List ℕ) (v : Verdict) → ((begun l new v).code ≡ 0 → ⊥) → (change (λ bus. filled) registers v).slice ≡ registers
+registers_kept : (l new : Lent) (filled registers : List ℕ) (v : Result Bus Refusal) → ((begun l new v).code ≡ 0 → ⊥) → (change (λ bus. filled) registers v).slice ≡ registers
 unfolding begun
-registers_kept l new filled registers (Refused e) n = refl
-registers_kept l new filled registers (Accepted bus) n = absurd (n refl)
+registers_kept l new filled registers (Err e) n = refl
+registers_kept l new filled registers (Ok bus) n = absurd (n refl)
 
 module _ (l : Lent) (file registers : List ℕ) (machine : ℕ) where
   abbrev imported_lent : Lent

@@ -10,6 +10,7 @@ use native.Mathlib.Omega.{arith}
 use lib.ListN.{length, get_or}
 use lib.Seq.{length-sets}
 use borrow.Author.Tests.{eq-eqb}
+use Rattle.std.specs.Prelude.{Ok}
 use Rattle.laws.proofs.Cases.{and_both}
 use Rattle.machine.specs.Numbers.{specs_of}
 use Rattle.record.specs.declared.Bus.{Bus}
@@ -22,7 +23,6 @@ use Rattle.memory.proofs.Stored.{loaded_out}
 use Rattle.memory.proofs.Screens.{file_long, saved_loaded, loaded_saved, file_bytes, shown_is_video}
 use Rattle.paint.specs.Paint.{blocks}
 use Rattle.paint.proofs.Fronts.{front_blocks}
-use Rattle.judgement.specs.declared.Verdict.TheVariants.{Accepted}
 use Rattle.judgement.specs.Judges.{ram_fits, judge_save_scr, judge_load_scr}
 use Rattle.judgement.specs.Ready.{ReadyLoadScr}
 use Rattle.judgement.proofs.Order.{save_scr_ordered, load_scr_ordered}
@@ -40,19 +40,19 @@ module _ (state : List ℕ) where
 
   -- ---- what an accepted call leaves
   module _ (ram file : List ℕ) where
-    save_accepted : (save_scr state ram file).code ≡ 0 → judge_save_scr state (length ram) (length file) ≡ Accepted bus
+    save_accepted : (save_scr state ram file).code ≡ 0 → judge_save_scr state (length ram) (length file) ≡ Ok bus
     save_accepted z = (save_scr_ordered state (length ram) (length file)).none_accepts ((save_scr_numbered state ram file).zero_by_none z)
 
     pub saved_is : (save_scr state ram file).code ≡ 0 → save_scr state ram file ≡ changed 0 (screen_file (ram_page shown ram))
     unfolding save_scr
     saved_is z = rw (save_accepted z)
 
-    pub loaded_by : (page : ℕ) → judge_load_scr state (length ram) (length file) page ≡ Accepted bus → load_scr state ram file page ≡ changed 0 (loaded page file ram)
+    pub loaded_by : (page : ℕ) → judge_load_scr state (length ram) (length file) page ≡ Ok bus → load_scr state ram file page ≡ changed 0 (loaded page file ram)
     unfolding load_scr
     loaded_by page e = rw e
 
     module _ (page : ℕ) (z : (load_scr state ram file page).code ≡ 0) where
-      load_accepted : judge_load_scr state (length ram) (length file) page ≡ Accepted bus
+      load_accepted : judge_load_scr state (length ram) (length file) page ≡ Ok bus
       load_accepted = (load_scr_ordered state (length ram) (length file) page).none_accepts ((load_scr_numbered state ram file page).zero_by_none z)
 
       pub load_ready : ReadyLoadScr state (length ram) (length file) page bus
@@ -85,7 +85,7 @@ module _ (state : List ℕ) where
       let fits : 16384 * shown + 16384 ≤ length ram = rw r.ram_is (exists_fits m shown (shown_exists m bus.paging)) in
       let saved = screen_file (ram_page shown ram) in
       let h = (save_scr_numbered state ram file).zero_by_none z in
-      let accepted : judge_load_scr state (length ram) (length saved) shown ≡ Accepted bus =
+      let accepted : judge_load_scr state (length ram) (length saved) shown ≡ Ok bus =
       (load_scr_ordered state (length ram) (length saved) shown).none_accepts (
         h.0,
         (

@@ -9,7 +9,7 @@ use native.Mathlib.Omega.{arith}
 use lib.Dec.{eqb, ltb}
 use lib.ListN.{length, take, drop}
 use borrow.Author.Tests.{eq-eqb, ne_eqb, eqb-true, eqb-false, le-ltb, ltb-false, not-false}
-use Rattle.std.specs.Prelude.{Result, Ok, Err}
+use Rattle.std.specs.Prelude.{Ok, Result, Err}
 use Rattle.machine.specs.declared.ZXMachine.{ZXMachine}
 use Rattle.machine.specs.declared.ZXMachine.TheVariants.{Sinclair48K, Sinclair128K}
 use Rattle.machine.specs.Numbers.{specs_of}
@@ -25,7 +25,6 @@ use Rattle.snapshot.specs.Kept.{registers_length, registers_in, snapshot_record,
 use Rattle.snapshot.proofs.Round.{length_ram, length_registers, length_file, paging_back, border_back, ram_back, copies_agree, registers_back, file_back}
 use Rattle.bus.specs.World.{beginning}
 use Rattle.judgement.specs.declared.Refusal.TheVariants.{BadMachine, BadLength, WrongSize, UnequalCopies}
-use Rattle.judgement.specs.declared.Verdict.TheVariants.{Accepted}
 use Rattle.judgement.specs.Refusals.{cause, judged, judged_held}
 use Rattle.judgement.specs.Judges.{export_fits, save_sna_causes, judge_load_sna, judge_save_sna}
 use Rattle.judgement.specs.Ready.{ReadySaveSna}
@@ -44,7 +43,7 @@ module _ (l : Lent) (file registers : List ℕ) (machine : ℕ) where
 
   -- AN IMPORT THAT NOTHING SPEAKS AGAINST, and what it leaves: RAM is the file's, the record fresh with the file's 7FFD byte and colour, pictures and border
   -- cleared, and the registers the file's
-  import_by : judge_load_sna_of l file registers machine ≡ Accepted (snapshot_record m file)
+  import_by : judge_load_sna_of l file registers machine ≡ Ok (snapshot_record m file)
       → load_sna l file registers machine ≡ import_leaves 0 (lent_by m (imported_world m file)) (registers_in m file)
   unfolding load_sna begun
   import_by e = rw e
@@ -142,7 +141,7 @@ module _ (state ram file registers : List ℕ) (z : (save_sna state ram file reg
   abbrev bus : Bus
   bus = record_of state
 
-  export_judged : judge_save_sna state (length ram) (length file) (length registers) ≡ Accepted bus
+  export_judged : judge_save_sna state (length ram) (length file) (length registers) ≡ Ok bus
   export_judged = (save_sna_ordered state (length ram) (length file) (length registers)).none_accepts ((save_sna_numbered state ram file registers).zero_by_none z)
 
   pub export_ready : ReadySaveSna state (length ram) (length file) (length registers) bus

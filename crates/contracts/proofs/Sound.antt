@@ -8,7 +8,7 @@ use mathlib.Core.Bool.{true}
 use mathlib.Core.List.{List, []}
 use native.Mathlib.Omega.{arith}
 use lib.ListN.{length}
-use Rattle.std.specs.Prelude.{Ok}
+use Rattle.std.specs.Prelude.{Result, Ok, Err}
 use Rattle.laws.proofs.Cases.{by_bool}
 use Rattle.machine.specs.declared.ZXMachine.{ZXMachine}
 use Rattle.machine.specs.declared.ZXMachine.TheVariants.{Sinclair48K, Sinclair128K}
@@ -28,8 +28,7 @@ use Rattle.bus.specs.Calls.{plain_wait, address_wait, port_read, port_write}
 use Rattle.bus.proofs.Runs.{ran_machine}
 use Rattle.bus.proofs.TimedCalls.{TimedPart, plain_timed, address_timed, read_timed, write_timed}
 use Rattle.bus.proofs.Kept.{unpass_kept, call_kept}
-use Rattle.judgement.specs.declared.Verdict.{Verdict}
-use Rattle.judgement.specs.declared.Verdict.TheVariants.{Refused, Accepted}
+use Rattle.judgement.specs.declared.Refusal.{Refusal}
 use Rattle.judgement.specs.Judges.{judge_state, judge_told}
 use Rattle.judgement.proofs.Accepted.{accepted_bytes, ready_wait, ready_port, ready_told, ready_state}
 use Rattle.contracts.specs.Timed.{Lent, lent_world, Outcome, timed_call, judge_wait_of, judge_port_of, wait_internal, wait_at, read_io, write_io}
@@ -54,7 +53,7 @@ record Runs (part : ZXMachine → Part) (bus : Bus) : Type 0 where
   brief : TimedPart bus.machine (part bus.machine)
 
 module _ (part : ZXMachine → Part) (value : ZXMachine → Core → ℕ) (l : Lent) (answer : List ℕ) where
-  accepted_good : (bus : Bus) → Runs part bus → Good (timed_call part value l answer (Accepted bus)).slices.state
+  accepted_good : (bus : Bus) → Runs part bus → Good (timed_call part value l answer (Ok bus)).slices.state
   unfolding timed_call
   accepted_good bus r =
       let m = bus.machine in
@@ -64,35 +63,35 @@ module _ (part : ZXMachine → Part) (value : ZXMachine → Core → ℕ) (l : L
       let k : Sound (bus_of m after.world) = call_kept m f r.brief w r.sound r.room in
       good (bus_of after.machine after.world) (subst (λ (x : ZXMachine). Sound (bus_of x after.world)) (sym (ran_machine (f w.core) (fresh m w))) k)
 
-  timed_sound : (v : Verdict) (o : Outcome) → o ≡ timed_call part value l answer v → ((bus : Bus) → v ≡ Accepted bus → Runs part bus)
+  timed_sound : (v : Result Bus Refusal) (o : Outcome) → o ≡ timed_call part value l answer v → ((bus : Bus) → v ≡ Ok bus → Runs part bus)
       → o.code ≡ 0 → Good o.slices.state
   unfolding timed_call
-  timed_sound (Refused e) o p r c = absurd (not_zero e (sym (ap (λ (x : Outcome). x.code) p) ∙ c))
-  timed_sound (Accepted bus) o p r c = subst (λ (x : Outcome). Good x.slices.state) (sym p) (accepted_good bus (r bus refl))
+  timed_sound (Err e) o p r c = absurd (not_zero e (sym (ap (λ (x : Outcome). x.code) p) ∙ c))
+  timed_sound (Ok bus) o p r c = subst (λ (x : Outcome). Good x.slices.state) (sym p) (accepted_good bus (r bus refl))
 
-  timed_keeps : (v : Verdict) (o : Outcome) → o ≡ timed_call part value l answer v → ((bus : Bus) → v ≡ Accepted bus → Runs part bus)
+  timed_keeps : (v : Result Bus Refusal) (o : Outcome) → o ≡ timed_call part value l answer v → ((bus : Bus) → v ≡ Ok bus → Runs part bus)
       → Good l.state → Good o.slices.state
   unfolding timed_call
-  timed_keeps (Refused e) o p r g = subst (λ (x : Outcome). Good x.slices.state) (sym p) g
-  timed_keeps (Accepted bus) o p r g = subst (λ (x : Outcome). Good x.slices.state) (sym p) (accepted_good bus (r bus refl))
+  timed_keeps (Err e) o p r g = subst (λ (x : Outcome). Good x.slices.state) (sym p) g
+  timed_keeps (Ok bus) o p r g = subst (λ (x : Outcome). Good x.slices.state) (sym p) (accepted_good bus (r bus refl))
 
-wait_runs : (l : Lent) (clocks : ℕ) (answer : List ℕ) (bus : Bus) → judge_wait_of l clocks answer ≡ Accepted bus → Runs (λ m. plain_wait clocks) bus
+wait_runs : (l : Lent) (clocks : ℕ) (answer : List ℕ) (bus : Bus) → judge_wait_of l clocks answer ≡ Ok bus → Runs (λ m. plain_wait clocks) bus
 wait_runs l clocks answer bus p =
     let r = ready_wait l.state bus (length l.ram) (length l.a) (length l.b) (length l.border) clocks (length answer) p in
     let n = r.short in
     record { sound = r.on_record.sound; room = r.room; brief = plain_timed bus.machine clocks (omega arith) }
 
-at_runs : (l : Lent) (addr clocks : ℕ) (answer : List ℕ) (bus : Bus) → judge_wait_of l clocks answer ≡ Accepted bus → Runs (λ m. address_wait m addr clocks) bus
+at_runs : (l : Lent) (addr clocks : ℕ) (answer : List ℕ) (bus : Bus) → judge_wait_of l clocks answer ≡ Ok bus → Runs (λ m. address_wait m addr clocks) bus
 at_runs l addr clocks answer bus p =
     let r = ready_wait l.state bus (length l.ram) (length l.a) (length l.b) (length l.border) clocks (length answer) p in
     record { sound = r.on_record.sound; room = r.room; brief = address_timed bus.machine addr clocks r.short }
 
-read_runs : (l : Lent) (devices : List ℕ) (port : ℕ) (answer : List ℕ) (bus : Bus) → judge_port_of l devices answer ≡ Accepted bus → Runs (λ m. port_read m port) bus
+read_runs : (l : Lent) (devices : List ℕ) (port : ℕ) (answer : List ℕ) (bus : Bus) → judge_port_of l devices answer ≡ Ok bus → Runs (λ m. port_read m port) bus
 read_runs l devices port answer bus p =
     let r = ready_port l.state bus devices (length l.ram) (length l.a) (length l.b) (length l.border) (length answer) p in
     record { sound = r.on_record.sound; room = r.room; brief = read_timed bus.machine port }
 
-write_runs : (l : Lent) (devices : List ℕ) (port value : ℕ) (answer : List ℕ) (bus : Bus) → value < 256 → judge_port_of l devices answer ≡ Accepted bus
+write_runs : (l : Lent) (devices : List ℕ) (port value : ℕ) (answer : List ℕ) (bus : Bus) → value < 256 → judge_port_of l devices answer ≡ Ok bus
     → Runs (λ m. port_write m (devices_of devices) port value) bus
 write_runs l devices port value answer bus h p =
     let r = ready_port l.state bus devices (length l.ram) (length l.a) (length l.b) (length l.border) (length answer) p in
@@ -140,10 +139,10 @@ reset_good : (bus : Bus) → Sound bus → Good (record_bytes (with_passed 0 bus
 unfolding in_core in_screen in_edge
 reset_good bus s = good (with_passed 0 bus) (unpass_kept bus.machine (world_of bus [] [] [] []) s)
 
-reset_by : (state : List ℕ) (v : Verdict) (o : Changed) → o ≡ change (λ bus. record_bytes (with_passed 0 bus)) state v
-    → ((bus : Bus) → v ≡ Accepted bus → Sound bus) → Good state → Good o.slice
-reset_by state (Refused e) o p s g = subst (λ (x : Changed). Good x.slice) (sym p) g
-reset_by state (Accepted bus) o p s g = subst (λ (x : Changed). Good x.slice) (sym p) (reset_good bus (s bus refl))
+reset_by : (state : List ℕ) (v : Result Bus Refusal) (o : Changed) → o ≡ change (λ bus. record_bytes (with_passed 0 bus)) state v
+    → ((bus : Bus) → v ≡ Ok bus → Sound bus) → Good state → Good o.slice
+reset_by state (Err e) o p s g = subst (λ (x : Changed). Good x.slice) (sym p) g
+reset_by state (Ok bus) o p s g = subst (λ (x : Changed). Good x.slice) (sym p) (reset_good bus (s bus refl))
 
 pub reset_frames_keeps : (state : List ℕ) → Good state → Good (reset_frames state).slice
 unfolding reset_frames
@@ -181,10 +180,10 @@ paged_good bus v h s =
       unpaged = paged_none bus.machine bus.paging v s.unpaged;
     })
 
-paged_by : (state answer : List ℕ) (value : ℕ) → value < 256 → (v : Verdict) (o : Repaged) → o ≡ repage value state answer v
-    → ((bus : Bus) → v ≡ Accepted bus → Sound bus) → Good state → Good o.state
-paged_by state answer value h (Refused e) o p s g = subst (λ (x : Repaged). Good x.state) (sym p) g
-paged_by state answer value h (Accepted bus) o p s g = subst (λ (x : Repaged). Good x.state) (sym p) (paged_good bus value h (s bus refl))
+paged_by : (state answer : List ℕ) (value : ℕ) → value < 256 → (v : Result Bus Refusal) (o : Repaged) → o ≡ repage value state answer v
+    → ((bus : Bus) → v ≡ Ok bus → Sound bus) → Good state → Good o.state
+paged_by state answer value h (Err e) o p s g = subst (λ (x : Repaged). Good x.state) (sym p) g
+paged_by state answer value h (Ok bus) o p s g = subst (λ (x : Repaged). Good x.state) (sym p) (paged_good bus value h (s bus refl))
 
 pub write_7ffd_keeps : (state : List ℕ) (value : ℕ) (answer : List ℕ) → value < 256 → Good state → Good (write7ffd_call state value answer).state
 unfolding write7ffd_call
@@ -193,7 +192,7 @@ write_7ffd_keeps state value answer h g =
     (λ bus p. (ready_told state bus (length answer) p).on_record.sound) g
 
 -- "on 48K 0 with nothing changed"; and nothing changes where paging is locked
-not_taken : (state answer : List ℕ) (value : ℕ) (bus : Bus) → Bytes state → judge_told state (length answer) ≡ Accepted bus
+not_taken : (state answer : List ℕ) (value : ℕ) (bus : Bus) → Bytes state → judge_told state (length answer) ≡ Ok bus
     → paging_after (write7ffd bus.machine bus.paging value) bus.paging ≡ bus.paging → (write7ffd_call state value answer).state ≡ state
 unfolding write7ffd_call
 not_taken state answer value bus b p e =
@@ -204,7 +203,7 @@ unfolding write7ffd
 absent_48 Sinclair48K h v e = refl
 absent_48 Sinclair128K h v e = never_48 e
 
-pub nothing_on_48k : (state answer : List ℕ) (value : ℕ) (bus : Bus) → Bytes state → judge_told state (length answer) ≡ Accepted bus
+pub nothing_on_48k : (state answer : List ℕ) (value : ℕ) (bus : Bus) → Bytes state → judge_told state (length answer) ≡ Ok bus
     → bus.machine ≡ Sinclair48K → (write7ffd_call state value answer).state ≡ state
 nothing_on_48k state answer value bus b p e = not_taken state answer value bus b p (absent_48 bus.machine bus.paging value e)
 
@@ -213,6 +212,6 @@ unfolding write7ffd
 locked_keeps Sinclair48K h v e = refl
 locked_keeps Sinclair128K h v e = rw e
 
-pub nothing_if_locked : (state answer : List ℕ) (value : ℕ) (bus : Bus) → Bytes state → judge_told state (length answer) ≡ Accepted bus
+pub nothing_if_locked : (state answer : List ℕ) (value : ℕ) (bus : Bus) → Bytes state → judge_told state (length answer) ≡ Ok bus
     → bit_set 5 bus.paging ≡ true → (write7ffd_call state value answer).state ≡ state
 nothing_if_locked state answer value bus b p e = not_taken state answer value bus b p (locked_keeps bus.machine bus.paging value e)

@@ -9,6 +9,7 @@ use native.Mathlib.Omega.{arith}
 use lib.Dec.{eqb, ltb, lit≤}
 use lib.ListN.{length}
 use borrow.Author.Tests.{eq-eqb, ne_eqb, le-ltb}
+use Rattle.std.specs.Prelude.{Ok, Err}
 use Rattle.machine.specs.declared.ZXMachine.{ZXMachine}
 use Rattle.machine.specs.declared.ZXMachine.TheVariants.{Sinclair48K, Sinclair128K}
 use Rattle.machine.specs.Numbers.{specs_of}
@@ -27,7 +28,6 @@ use Rattle.bus.specs.World.{Screen, World, bus_of, Sized}
 use Rattle.bus.specs.Time.{Look, look_at, flash_on, shows_a, hidden_picture, caught_up, rewound, world_after}
 use Rattle.bus.proofs.OneStep.{frame_long, goes_on_if, screen_goes}
 use Rattle.bus.proofs.Kept.{SoundWorld}
-use Rattle.judgement.specs.declared.Verdict.TheVariants.{Refused, Accepted}
 use Rattle.judgement.specs.declared.Refusal.TheVariants.{BadNumber}
 use Rattle.judgement.specs.Refusals.{judged}
 use Rattle.judgement.specs.Judges.{judge_wait, judge_still}
@@ -47,7 +47,7 @@ longest_reaches m = last_block (specs_of m) (regular m).wide longest_wait (by m)
   by Sinclair128K = lit≤ tt
 
 -- an accepted still picture is its definition of the record
-pub still_of_lem : (state ram picture : List ℕ) (flash : ℕ) (bus : Bus) → judge_still state (length ram) (length picture) flash ≡ Accepted bus
+pub still_of_lem : (state ram picture : List ℕ) (flash : ℕ) (bus : Bus) → judge_still state (length ram) (length picture) flash ≡ Ok bus
     → still_picture state ram picture flash ≡ changed 0 (still_of bus ram (eqb flash 1))
 unfolding still_picture
 still_of_lem state ram picture flash bus e = rw e
@@ -55,12 +55,12 @@ still_of_lem state ram picture flash bus e = rw e
 module _ (m : ZXMachine) (w : World) (sound : SoundWorld m w) (sized : Sized m w) where
   -- a still picture with flash off or on, into a picture of its length, is accepted
   still_accepted : (flash : Bool) (picture : List ℕ) → length picture ≡ picture_length
-      → judge_still (record_bytes (bus_of m w)) (length w.core.ram) (length picture) (flag_byte flash) ≡ Accepted (bus_of m w)
+      → judge_still (record_bytes (bus_of m w)) (length w.core.ram) (length picture) (flag_byte flash) ≡ Ok (bus_of m w)
   unfolding judge_still judged
   still_accepted flash picture long =
       rw (held_encode (bus_of m w) (facts_sound (bus_of m w) sound), eq-eqb (length w.core.ram) (specs_of m).ram sized.ram, eq-eqb (length picture) picture_length long)
       (by flash) where
-        by : (flash : Bool) → cond (ltb 1 (flag_byte flash)) (Refused BadNumber) (Accepted (bus_of m w)) ≡ Accepted (bus_of m w)
+        by : (flash : Bool) → cond (ltb 1 (flag_byte flash)) (Err BadNumber) (Ok (bus_of m w)) ≡ Ok (bus_of m w)
         by true = refl
         by false = refl
 
@@ -119,7 +119,7 @@ module _ (m : ZXMachine) (w : World) (sound : SoundWorld m w) (sized : Sized m w
       abbrev wait : Outcome
       wait = wait_internal (lent_by m (fresh_frame w)) n answer
 
-      wait_accepted : judge_wait_of (lent_by m (fresh_frame w)) n answer ≡ Accepted (bus_of m (fresh_frame w))
+      wait_accepted : judge_wait_of (lent_by m (fresh_frame w)) n answer ≡ Ok (bus_of m (fresh_frame w))
       unfolding judge_wait judged
       wait_accepted =
           rw (

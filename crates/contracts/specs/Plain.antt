@@ -1,6 +1,6 @@
 -- Document 01, and document 02, Q-2: the calls that take no time, as C calls them, and the three that hand back a part.
 -- Assumes nothing.
-use Rattle.std.specs.Prelude.{ℕ, Bool, true, cond, List, [], eqb, length}
+use Rattle.std.specs.Prelude.{ℕ, Bool, true, cond, List, [], eqb, length, Result, Ok, Err}
 use Rattle.machine.specs.Timing.{interrupt}
 use Rattle.machine.specs.Limits.{picture_length}
 use Rattle.record.specs.declared.Bus.{Bus}
@@ -11,16 +11,15 @@ use Rattle.memory.specs.Memory.{peeked, poked, ram_page, page_part, part_start, 
 use Rattle.memory.specs.Screens.{screen_file}
 use Rattle.paint.specs.Paint.{blocks}
 use Rattle.bus.specs.Time.{shows_a}
-use Rattle.judgement.specs.declared.Verdict.{Verdict}
-use Rattle.judgement.specs.declared.Verdict.TheVariants.{Refused, Accepted}
+use Rattle.judgement.specs.declared.Refusal.{Refusal}
 use Rattle.judgement.specs.Refusals.{refusal_number}
 use Rattle.judgement.specs.Judges.{judge_state, judge_told, judge_read, judge_write, judge_load, number_fits, judge_ram_page, judge_block, judge_shown, judge_still, judge_save_scr, judge_load_scr}
 use Rattle.judgement.specs.Answers.{number_answer, refused_answer, number_length}
 
 -- "Every call .. returns its refusal number, 0 if accepted."
-abbrev pub code_of : Verdict → ℕ
-code_of (Refused e) = refusal_number e
-code_of (Accepted bus) = 0
+abbrev pub code_of : Result Bus Refusal → ℕ
+code_of (Err e) = refusal_number e
+code_of (Ok bus) = 0
 
 -- what a call with a number to give returns, and its answer
 pub record Told : Type 0 where
@@ -30,9 +29,9 @@ pub record Told : Type 0 where
 abbrev pub told : ℕ → List ℕ → Told
 told code answer = record { code = code; answer = answer }
 
-abbrev pub tell : (Bus → ℕ) → List ℕ → Verdict → Told
-tell number answer (Refused e) = told (refusal_number e) (refused_answer number_length (refusal_number e) answer)
-tell number answer (Accepted bus) = told 0 (number_answer (number bus))
+abbrev pub tell : (Bus → ℕ) → List ℕ → Result Bus Refusal → Told
+tell number answer (Err e) = told (refusal_number e) (refused_answer number_length (refusal_number e) answer)
+tell number answer (Ok bus) = told 0 (number_answer (number bus))
 
 -- what a call that changes one lent slice returns, and that slice
 pub record Changed : Type 0 where
@@ -43,9 +42,9 @@ abbrev pub changed : ℕ → List ℕ → Changed
 changed code slice = record { code = code; slice = slice }
 
 -- "A refused call .. writes nothing else."
-abbrev pub change : (Bus → List ℕ) → List ℕ → Verdict → Changed
-change new old (Refused e) = changed (refusal_number e) old
-change new old (Accepted bus) = changed 0 (new bus)
+abbrev pub change : (Bus → List ℕ) → List ℕ → Result Bus Refusal → Changed
+change new old (Err e) = changed (refusal_number e) old
+change new old (Ok bus) = changed 0 (new bus)
 
 -- ulb_read_internal: byte read
 unfoldable pub read_internal : List ℕ → List ℕ → List ℕ → ℕ → List ℕ → Told
@@ -66,9 +65,9 @@ pub record Repaged : Type 0 where
 abbrev pub repaged : ℕ → List ℕ → List ℕ → Repaged
 repaged code state answer = record { code = code; state = state; answer = answer }
 
-abbrev pub repage : ℕ → List ℕ → List ℕ → Verdict → Repaged
-repage value state answer (Refused e) = repaged (refusal_number e) state (refused_answer number_length (refusal_number e) answer)
-repage value state answer (Accepted bus) =
+abbrev pub repage : ℕ → List ℕ → List ℕ → Result Bus Refusal → Repaged
+repage value state answer (Err e) = repaged (refusal_number e) state (refused_answer number_length (refusal_number e) answer)
+repage value state answer (Ok bus) =
     let p = write7ffd bus.machine bus.paging value in
     repaged 0 (record_bytes (with_paging (paging_after p bus.paging) bus)) (number_answer (paged_code p))
 
@@ -114,9 +113,9 @@ still_picture state ram picture flash =
     change (λ bus. still_of bus ram (eqb flash 1)) picture (judge_still state (length ram) (length picture) flash)
 
 -- ---- the three that hand back a part: "returns .. an empty part where a part is due"
-abbrev pub part : (Bus → List ℕ) → Verdict → List ℕ
-part whole (Refused e) = []
-part whole (Accepted bus) = whole bus
+abbrev pub part : (Bus → List ℕ) → Result Bus Refusal → List ℕ
+part whole (Err e) = []
+part whole (Ok bus) = whole bus
 
 -- "RAM page by number"
 unfoldable pub ram_page_part : List ℕ → List ℕ → ℕ → List ℕ

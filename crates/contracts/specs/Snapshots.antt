@@ -1,12 +1,13 @@
 -- Document 02, Q-4: import and export of a snapshot, as C calls them. What stands in a file is crate snapshot's to say.
 -- Assumes nothing.
-use Rattle.std.specs.Prelude.{ℕ, Bool, List, length}
+use Rattle.std.specs.Prelude.{ℕ, Bool, List, length, Result}
 use Rattle.machine.specs.declared.ZXMachine.{ZXMachine}
+use Rattle.record.specs.declared.Bus.{Bus}
 use Rattle.record.specs.Record.{machine_of}
 use Rattle.snapshot.specs.File.{ram_in}
 use Rattle.snapshot.specs.Kept.{registers_in, snapshot_record, snapshot_file}
 use Rattle.bus.specs.World.{World, beginning}
-use Rattle.judgement.specs.declared.Verdict.{Verdict}
+use Rattle.judgement.specs.declared.Refusal.{Refusal}
 use Rattle.judgement.specs.Judges.{import_fits, judge_load_sna, judge_save_sna}
 use Rattle.contracts.specs.Timed.{Lent, lent_by, begun}
 use Rattle.contracts.specs.Plain.{Changed, change}
@@ -20,7 +21,7 @@ pub record Imported : Type 0 where
 abbrev pub import_leaves : ℕ → Lent → List ℕ → Imported
 import_leaves code slices registers = record { code = code; slices = slices; registers = registers }
 
-abbrev pub judge_load_sna_of : Lent → List ℕ → List ℕ → ℕ → Verdict
+abbrev pub judge_load_sna_of : Lent → List ℕ → List ℕ → ℕ → Result Bus Refusal
 judge_load_sna_of l file registers machine =
     judge_load_sna (length l.state) (length l.ram) (length registers) (length l.a) (length l.b) (length l.border) machine file
 

@@ -1,6 +1,6 @@
 -- Document 01: start, the waits, port read and port write, as C calls them; and the start of document 02 that takes a colour (Q-3).
 -- Assumes nothing.
-use Rattle.std.specs.Prelude.{ℕ, List, length}
+use Rattle.std.specs.Prelude.{ℕ, List, length, Result, Ok, Err}
 use Rattle.machine.specs.declared.ZXMachine.{ZXMachine}
 use Rattle.machine.specs.Timing.{interrupt}
 use Rattle.record.specs.declared.Bus.{Bus}
@@ -9,8 +9,7 @@ use Rattle.ports.specs.Devices.{devices_of}
 use Rattle.bus.specs.World.{Core, World, world_of, bus_of, started}
 use Rattle.bus.specs.Turns.{Turn, Part, fresh, ran_by}
 use Rattle.bus.specs.Calls.{plain_wait, address_wait, port_read, read_value, port_write, write_code}
-use Rattle.judgement.specs.declared.Verdict.{Verdict}
-use Rattle.judgement.specs.declared.Verdict.TheVariants.{Refused, Accepted}
+use Rattle.judgement.specs.declared.Refusal.{Refusal}
 use Rattle.judgement.specs.Refusals.{refusal_number}
 use Rattle.judgement.specs.Judges.{judge_start, judge_wait, judge_port}
 use Rattle.judgement.specs.Answers.{timed_answer, refused_answer, timed_length}
@@ -50,20 +49,20 @@ timed_end t value =
 
 -- a timed call: its operations, and its value or code, are what the core at entry decides. "A refused call fills its answer .., returns the
 -- number .. and writes nothing else."
-unfoldable pub timed_call : (ZXMachine → Part) → (ZXMachine → Core → ℕ) → Lent → List ℕ → Verdict → Outcome
-timed_call part value l answer (Refused e) = outcome (refusal_number e) l (refused_answer timed_length (refusal_number e) answer)
-timed_call part value l answer (Accepted bus) =
+unfoldable pub timed_call : (ZXMachine → Part) → (ZXMachine → Core → ℕ) → Lent → List ℕ → Result Bus Refusal → Outcome
+timed_call part value l answer (Err e) = outcome (refusal_number e) l (refused_answer timed_length (refusal_number e) answer)
+timed_call part value l answer (Ok bus) =
     timed_end (ran_by (part bus.machine) (fresh bus.machine (lent_world bus l))) (value bus.machine (lent_world bus l).core)
 
 -- "value or code (0 for a wait)"
 abbrev pub no_value : ZXMachine → Core → ℕ
 no_value m c = 0
 
-abbrev pub judge_wait_of : Lent → ℕ → List ℕ → Verdict
+abbrev pub judge_wait_of : Lent → ℕ → List ℕ → Result Bus Refusal
 judge_wait_of l clocks answer =
     judge_wait l.state (length l.ram) (length l.a) (length l.b) (length l.border) clocks (length answer)
 
-abbrev pub judge_port_of : Lent → List ℕ → List ℕ → Verdict
+abbrev pub judge_port_of : Lent → List ℕ → List ℕ → Result Bus Refusal
 judge_port_of l devices answer =
     judge_port l.state devices (length l.ram) (length l.a) (length l.b) (length l.border) (length answer)
 
@@ -95,11 +94,11 @@ abbrev pub start_leaves : ℕ → Lent → Started
 start_leaves code slices = record { code = code; slices = slices }
 
 -- a start by its verdict: the slices as they were, or the new ones
-unfoldable pub begun : Lent → Lent → Verdict → Started
-begun l new (Refused e) = start_leaves (refusal_number e) l
-begun l new (Accepted bus) = start_leaves 0 new
+unfoldable pub begun : Lent → Lent → Result Bus Refusal → Started
+begun l new (Err e) = start_leaves (refusal_number e) l
+begun l new (Ok bus) = start_leaves 0 new
 
-abbrev pub judge_start_of : Lent → ℕ → ℕ → Verdict
+abbrev pub judge_start_of : Lent → ℕ → ℕ → Result Bus Refusal
 judge_start_of l machine colour =
     judge_start (length l.state) (length l.ram) (length l.a) (length l.b) (length l.border) machine colour
 

@@ -6,6 +6,7 @@ use mathlib.Core.List.{List, ◌++◌}
 use mathlib.Core.Path.{◌≡◌, refl, sym, ◌∙◌, ap}
 use lib.ListN.{length}
 use borrow.Author.Tests.{eq-eqb}
+use Rattle.std.specs.Prelude.{Ok}
 use Rattle.laws.proofs.Cases.{and_both}
 use Rattle.machine.specs.declared.ZXMachine.{ZXMachine}
 use Rattle.machine.specs.Limits.{picture_length}
@@ -14,7 +15,6 @@ use Rattle.record.proofs.Round.{sound_encode, sound_fits}
 use Rattle.bus.specs.World.{World, bus_of, Sized}
 use Rattle.bus.specs.Time.{shows_a, shown_picture}
 use Rattle.bus.proofs.Kept.{SoundWorld}
-use Rattle.judgement.specs.declared.Verdict.TheVariants.{Accepted}
 use Rattle.judgement.specs.Answers.{number_length}
 use Rattle.judgement.specs.Order.{NoneHolds}
 use Rattle.judgement.proofs.Order.{shown_ordered}
@@ -49,7 +49,7 @@ module _ (m : ZXMachine) (w : World) (sound : SoundWorld m w) (sized : Sized m w
       ap (part (λ bus. cond (shows_a bus.phase) l.a l.b))
       ((shown_ordered l.state (length l.a) (length l.b) true).none_accepts
       (no_cause.0, (no_cause.1.0, (ap not (and_both _ _ (and_both _ _ (eq-eqb (length l.a) picture_length sized.a) (eq-eqb (length l.b) picture_length sized.b)) refl), tt)))
-      ∙ ap Accepted (record_of_lem m w sound sized))
+      ∙ ap Ok (record_of_lem m w sound sized))
 
   pub shown_named : Names (shown_told l.state l.a l.b answer) (l.a ++ l.b) (shown_picture w.core w.screen)
   shown_named = (accepted, sym (shown_found l.state l.a l.b answer accepted).0 ∙ part_is)

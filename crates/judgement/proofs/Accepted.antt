@@ -8,7 +8,7 @@ use native.Mathlib.Omega.{arith}
 use borrow.Author.Tests.{eqb-true, eqb-false, ltb-false, not-false}
 use lib.Dec.{eqb}
 use lib.ListN.{length}
-use Rattle.std.specs.Prelude.{Result, Ok, Err}
+use Rattle.std.specs.Prelude.{Ok, Result, Err}
 use Rattle.laws.proofs.Cases.{and_left, and_right, and_both}
 use Rattle.laws.proofs.Conjunction.{each}
 use Rattle.machine.specs.declared.ZXMachine.{ZXMachine}
@@ -16,7 +16,6 @@ use Rattle.machine.specs.Numbers.{specs_of}
 use Rattle.machine.specs.Limits.{picture_length, border_length, page_length, longest_wait}
 use Rattle.record.specs.declared.Bus.{Bus}
 use Rattle.record.specs.declared.BadRecord.{BadRecord}
-use Rattle.record.specs.declared.BadRecord.TheVariants as bad
 use Rattle.record.specs.Record.{record_length, machine_of, record_bytes, held_by, last_frame, no_room, HasRoom}
 use Rattle.record.proofs.Soundness.{sound_facts}
 use Rattle.record.specs.Words.{Bytes}
@@ -26,18 +25,15 @@ use Rattle.memory.specs.Screens.{screen_length, video_page}
 use Rattle.ports.specs.Devices.{flags_of, devices_length}
 use Rattle.snapshot.specs.File.{due_size, paging_in}
 use Rattle.snapshot.specs.Kept.{registers_length}
-use Rattle.judgement.specs.declared.Verdict.TheVariants.{Accepted}
 use Rattle.judgement.specs.Refusals.{Cause, judged_held, judge}
 use Rattle.judgement.specs.Judges.{ram_fits, rom_fits, picture_fits, border_fits, timed_fits, number_fits, lent_fit, start_fits, judge_start, judge_wait, judge_port, judge_state, judge_told, judge_read, judge_write, judge_load, judge_ram_page, judge_block, judge_shown, judge_still, judge_save_scr, judge_load_scr, judge_load_sna, judge_save_sna}
 use Rattle.judgement.specs.Order.{NoneHolds}
 use Rattle.judgement.specs.Ready.{OnRecord, Fit, StartFit, ReadyStart, ReadyWait, ReadyPort, ReadyTold, ReadyRead, ReadyWrite, ReadyLoad, ReadyRamPage, ReadyBlock, ReadyShown, ReadyStill, ReadySaveScr, ReadyLoadScr, ReadyLoadSna, ReadySaveSna}
 use Rattle.judgement.specs.Answers.{timed_length, number_length}
-use Rattle.judgement.proofs.Judging.{never}
 use Rattle.judgement.proofs.Order.{accepted_by_none_lem, start_colour_ordered, load_sna_ordered}
 
-by_held : (h : Result Bus BadRecord) (causes : Bus → List Cause) (bus : Bus) → judged_held h causes ≡ Accepted bus → (h ≡ Ok bus) × NoneHolds (causes bus)
-by_held (Err bad.WrongLength) causes bus p = never _ bus p
-by_held (Err bad.Unsound) causes bus p = never _ bus p
+by_held : (h : Result Bus BadRecord) (causes : Bus → List Cause) (bus : Bus) → judged_held h causes ≡ Ok bus → (h ≡ Ok bus) × NoneHolds (causes bus)
+by_held (Err bad) causes bus p = cc
 by_held (Ok b) causes bus p =
     let n = accepted_by_none_lem (causes b) b bus p in
     (rw n.1, rw n.1 n.0)
@@ -48,7 +44,7 @@ on_record_lem state bus h =
     record { long = d.0; is_held = h; decodes = d.2; sound = sound_facts bus (held_sound state bus h) }
 
 -- an accepted call: the record is sound, and no cause holds
-pub accepted : (state : List ℕ) (causes : Bus → List Cause) (bus : Bus) → judge state causes ≡ Accepted bus → OnRecord state bus × NoneHolds (causes bus)
+pub accepted : (state : List ℕ) (causes : Bus → List Cause) (bus : Bus) → judge state causes ≡ Ok bus → OnRecord state bus × NoneHolds (causes bus)
 accepted state causes bus p = let h = by_held (held_by state) causes bus p in (on_record_lem state bus h.0, h.1)
 
 -- the bytes of the accepted record are those that were lent, as every element of a slice of bytes in code is a byte
@@ -84,7 +80,7 @@ start_fit m state ram a b border e =
     }
 
 -- ---- every judgement
-pub ready_start : (state ram a b border machine colour : ℕ) (bus : Bus) → judge_start state ram a b border machine colour ≡ Accepted bus
+pub ready_start : (state ram a b border machine colour : ℕ) (bus : Bus) → judge_start state ram a b border machine colour ≡ Ok bus
     → ReadyStart state ram a b border machine colour bus
 ready_start state ram a b border machine colour bus p =
     let r = (start_colour_ordered state ram a b border machine colour).accepted_by_none bus p in
@@ -95,7 +91,7 @@ ready_start state ram a b border machine colour bus p =
       writes = r.1;
     }
 
-pub ready_load_sna : (state ram registers a b border machine : ℕ) (file : List ℕ) (bus : Bus) → judge_load_sna state ram registers a b border machine file ≡ Accepted bus
+pub ready_load_sna : (state ram registers a b border machine : ℕ) (file : List ℕ) (bus : Bus) → judge_load_sna state ram registers a b border machine file ≡ Ok bus
     → ReadyLoadSna state ram registers a b border machine file bus
 ready_load_sna state ram registers a b border machine file bus p =
     let m = machine_of machine in
@@ -112,7 +108,7 @@ ready_load_sna state ram registers a b border machine file bus p =
     }
 
 module _ (state : List ℕ) (bus : Bus) where
-  pub ready_wait : (ram a b border clocks answer : ℕ) → judge_wait state ram a b border clocks answer ≡ Accepted bus
+  pub ready_wait : (ram a b border clocks answer : ℕ) → judge_wait state ram a b border clocks answer ≡ Ok bus
       → ReadyWait state ram a b border clocks answer bus
   unfolding judge_wait
   ready_wait ram a b border clocks answer p =
@@ -124,7 +120,7 @@ module _ (state : List ℕ) (bus : Bus) where
         room = has_room bus r.0.sound.passed r.1.1.1.0;
       }
 
-  pub ready_port : (devices : List ℕ) (ram a b border answer : ℕ) → judge_port state devices ram a b border answer ≡ Accepted bus
+  pub ready_port : (devices : List ℕ) (ram a b border answer : ℕ) → judge_port state devices ram a b border answer ≡ Ok bus
       → ReadyPort state devices ram a b border answer bus
   unfolding judge_port
   ready_port devices ram a b border answer p =
@@ -138,17 +134,17 @@ module _ (state : List ℕ) (bus : Bus) where
         room = has_room bus r.0.sound.passed r.1.1.1.0;
       }
 
-  pub ready_state : judge_state state ≡ Accepted bus → OnRecord state bus
+  pub ready_state : judge_state state ≡ Ok bus → OnRecord state bus
   unfolding judge_state
   ready_state p = (accepted state _ bus p).0
 
-  pub ready_told : (answer : ℕ) → judge_told state answer ≡ Accepted bus → ReadyTold state answer bus
+  pub ready_told : (answer : ℕ) → judge_told state answer ≡ Ok bus → ReadyTold state answer bus
   unfolding judge_told
   ready_told answer p =
       let r = accepted state _ bus p in
       record { on_record = r.0; answer_is = eqb-true answer number_length (not-false (number_fits answer) r.1.0) }
 
-  pub ready_read : (rom ram answer : ℕ) → judge_read state rom ram answer ≡ Accepted bus → ReadyRead state rom ram answer bus
+  pub ready_read : (rom ram answer : ℕ) → judge_read state rom ram answer ≡ Ok bus → ReadyRead state rom ram answer bus
   unfolding judge_read
   ready_read rom ram answer p =
       let r = accepted state _ bus p in
@@ -160,13 +156,13 @@ module _ (state : List ℕ) (bus : Bus) where
         answer_is = eqb-true answer number_length (test 2);
       }
 
-  pub ready_write : (ram : ℕ) → judge_write state ram ≡ Accepted bus → ReadyWrite state ram bus
+  pub ready_write : (ram : ℕ) → judge_write state ram ≡ Ok bus → ReadyWrite state ram bus
   unfolding judge_write
   ready_write ram p =
       let r = accepted state _ bus p in
       record { on_record = r.0; ram_is = eqb-true ram (specs_of bus.machine).ram (not-false (ram_fits bus ram) r.1.0) }
 
-  pub ready_load : (ram bytes page : ℕ) → judge_load state ram bytes page ≡ Accepted bus → ReadyLoad state ram bytes page bus
+  pub ready_load : (ram bytes page : ℕ) → judge_load state ram bytes page ≡ Ok bus → ReadyLoad state ram bytes page bus
   unfolding judge_load
   ready_load ram bytes page p =
       let r = accepted state _ bus p in
@@ -178,7 +174,7 @@ module _ (state : List ℕ) (bus : Bus) where
         exists = not-false (page_exists bus.machine page) r.1.1.0;
       }
 
-  pub ready_ram_page : (ram page : ℕ) (fits : Bool) → judge_ram_page state ram page fits ≡ Accepted bus → ReadyRamPage state ram page fits bus
+  pub ready_ram_page : (ram page : ℕ) (fits : Bool) → judge_ram_page state ram page fits ≡ Ok bus → ReadyRamPage state ram page fits bus
   unfolding judge_ram_page
   ready_ram_page ram page fits p =
       let r = accepted state _ bus p in
@@ -190,7 +186,7 @@ module _ (state : List ℕ) (bus : Bus) where
         exists = not-false (page_exists bus.machine page) r.1.1.0;
       }
 
-  pub ready_block : (rom ram block : ℕ) (fits : Bool) → judge_block state rom ram block fits ≡ Accepted bus → ReadyBlock state rom ram block fits bus
+  pub ready_block : (rom ram block : ℕ) (fits : Bool) → judge_block state rom ram block fits ≡ Ok bus → ReadyBlock state rom ram block fits bus
   unfolding judge_block
   ready_block rom ram block fits p =
       let r = accepted state _ bus p in
@@ -203,14 +199,14 @@ module _ (state : List ℕ) (bus : Bus) where
         block_in = ltb-false 3 block r.1.1.0;
       }
 
-  pub ready_shown : (a b : ℕ) (fits : Bool) → judge_shown state a b fits ≡ Accepted bus → ReadyShown state a b fits bus
+  pub ready_shown : (a b : ℕ) (fits : Bool) → judge_shown state a b fits ≡ Ok bus → ReadyShown state a b fits bus
   unfolding judge_shown
   ready_shown a b fits p =
       let r = accepted state _ bus p in
       let test = each (picture_fits a) (picture_fits b ∷ fits ∷ []) (not-false _ r.1.0) in
       record { on_record = r.0; a_is = eqb-true a picture_length (test 0); b_is = eqb-true b picture_length (test 1); answer_fits = test 2 }
 
-  pub ready_still : (ram picture flash : ℕ) → judge_still state ram picture flash ≡ Accepted bus → ReadyStill state ram picture flash bus
+  pub ready_still : (ram picture flash : ℕ) → judge_still state ram picture flash ≡ Ok bus → ReadyStill state ram picture flash bus
   unfolding judge_still
   ready_still ram picture flash p =
       let r = accepted state _ bus p in
@@ -222,14 +218,14 @@ module _ (state : List ℕ) (bus : Bus) where
         flash_in = ltb-false 1 flash r.1.1.0;
       }
 
-  pub ready_save_scr : (ram file : ℕ) → judge_save_scr state ram file ≡ Accepted bus → ReadySaveScr state ram file bus
+  pub ready_save_scr : (ram file : ℕ) → judge_save_scr state ram file ≡ Ok bus → ReadySaveScr state ram file bus
   unfolding judge_save_scr
   ready_save_scr ram file p =
       let r = accepted state _ bus p in
       let test = each (ram_fits bus ram) (eqb file screen_length ∷ []) (not-false _ r.1.0) in
       record { on_record = r.0; ram_is = eqb-true ram (specs_of bus.machine).ram (test 0); file_is = eqb-true file screen_length (test 1) }
 
-  pub ready_load_scr : (ram file page : ℕ) → judge_load_scr state ram file page ≡ Accepted bus → ReadyLoadScr state ram file page bus
+  pub ready_load_scr : (ram file page : ℕ) → judge_load_scr state ram file page ≡ Ok bus → ReadyLoadScr state ram file page bus
   unfolding judge_load_scr
   ready_load_scr ram file page p =
       let r = accepted state _ bus p in
@@ -242,7 +238,7 @@ module _ (state : List ℕ) (bus : Bus) where
         video = not-false (video_page bus.machine page) r.1.1.1.0;
       }
 
-  pub ready_save_sna : (ram file registers : ℕ) → judge_save_sna state ram file registers ≡ Accepted bus → ReadySaveSna state ram file registers bus
+  pub ready_save_sna : (ram file registers : ℕ) → judge_save_sna state ram file registers ≡ Ok bus → ReadySaveSna state ram file registers bus
   unfolding judge_save_sna
   ready_save_sna ram file registers p =
       let r = accepted state _ bus p in

@@ -1,4 +1,3 @@
-pub mod Judging
 pub mod Zeros
 pub mod Order
 pub mod Accepted

@@ -7,18 +7,15 @@ use mathlib.Core.Bool.{Bool, true, false, cond, not}
 use mathlib.Core.List.{List, [], ◌∷◌, ◌++◌}
 use lib.Dec.{eqb}
 use lib.ListN.{length}
-use Rattle.std.specs.Prelude.{Ok, Err}
+use Rattle.std.specs.Prelude.{Result, Ok, Err}
 use Rattle.record.specs.declared.Bus.{Bus}
 use Rattle.record.specs.declared.BadRecord.TheVariants as bad
 use Rattle.record.specs.Record.{record_length, record_of, sound_bytes, held_by, machine_of, start_record}
 use Rattle.snapshot.specs.Kept.{snapshot_record}
 use Rattle.judgement.specs.declared.Refusal.{Refusal}
-use Rattle.judgement.specs.declared.Verdict.{Verdict}
-use Rattle.judgement.specs.declared.Verdict.TheVariants.{Refused, Accepted}
 use Rattle.judgement.specs.Refusals.{Cause, judged, judged_held, judge}
 use Rattle.judgement.specs.Judges.{above, start_causes, start_colour_causes, judge_start, wait_causes, judge_wait, port_causes, judge_port, no_causes, judge_state, told_causes, judge_told, read_causes, judge_read, write_causes, judge_write, load_causes, judge_load, ram_page_causes, judge_ram_page, block_causes, judge_block, shown_causes, judge_shown, still_causes, save_scr_causes, load_scr_causes, judge_still, judge_save_scr, judge_load_scr, load_sna_causes, judge_load_sna, save_sna_causes, judge_save_sna}
 use Rattle.judgement.specs.Order.{NoneHolds, FirstHolds, all_causes, document_order, numbers_of, stand_in, Ordered}
-use Rattle.judgement.proofs.Judging.{never}
 
 -- ---- any list of causes
 here : (c : Cause) (cs : List Cause) → c.holds ≡ true → FirstHolds (c ∷ cs) c.refusal
@@ -36,15 +33,15 @@ later c cs e n f =
       refusal = f.refusal;
     }
 
-first_of : (c : Cause) (cs : List Cause) (v : Verdict) (e : Refusal) → (v ≡ Refused e → FirstHolds cs e) → (t : Bool) → c.holds ≡ t
-    → cond t (Refused c.refusal) v ≡ Refused e → FirstHolds (c ∷ cs) e
+first_of : (c : Cause) (cs : List Cause) (v : Result Bus Refusal) (e : Refusal) → (v ≡ Err e → FirstHolds cs e) → (t : Bool) → c.holds ≡ t
+    → cond t (Err c.refusal) v ≡ Err e → FirstHolds (c ∷ cs) e
 first_of c cs v e f true h q = let same : c.refusal ≡ e = cc in subst (λ (x : Refusal). FirstHolds (c ∷ cs) x) same (here c cs h)
 first_of c cs v e f false h q = later c cs e h (f q)
 
 -- a refusal is that of the first cause that holds
-pub refused_by_first_lem : (causes : List Cause) (bus : Bus) (e : Refusal) → judged causes bus ≡ Refused e → FirstHolds causes e
+pub refused_by_first_lem : (causes : List Cause) (bus : Bus) (e : Refusal) → judged causes bus ≡ Err e → FirstHolds causes e
 unfolding judged
-refused_by_first_lem [] bus e p = never e bus (sym p)
+refused_by_first_lem [] bus e p = cc
 refused_by_first_lem (c ∷ cs) bus e p = first_of c cs (judged cs bus) e (λ q. refused_by_first_lem cs bus e q) c.holds refl p
 
 -- causes that do not hold are passed over
@@ -54,26 +51,26 @@ passed_over [] cs bus n = refl
 passed_over (c ∷ before) cs bus n = rw n.0 (passed_over before cs bus n.1)
 
 -- the first cause that holds refuses
-pub first_refuses_lem : (causes : List Cause) (bus : Bus) (e : Refusal) → FirstHolds causes e → judged causes bus ≡ Refused e
+pub first_refuses_lem : (causes : List Cause) (bus : Bus) (e : Refusal) → FirstHolds causes e → judged causes bus ≡ Err e
 unfolding judged
 first_refuses_lem causes bus e f =
     ap (λ (cs : List Cause). judged cs bus) f.split
     ∙ passed_over f.before (f.this ∷ f.after) bus f.none_before
-    ∙ rw f.holds (ap Refused f.refusal)
+    ∙ rw f.holds (ap Err f.refusal)
 
-none_of : (c : Cause) (cs : List Cause) (v : Verdict) (bus b : Bus) → (v ≡ Accepted b → NoneHolds cs × (b ≡ bus)) → (t : Bool) → c.holds ≡ t
-    → cond t (Refused c.refusal) v ≡ Accepted b → NoneHolds (c ∷ cs) × (b ≡ bus)
-none_of c cs v bus b f true h q = never c.refusal b q
+none_of : (c : Cause) (cs : List Cause) (v : Result Bus Refusal) (bus b : Bus) → (v ≡ Ok b → NoneHolds cs × (b ≡ bus)) → (t : Bool) → c.holds ≡ t
+    → cond t (Err c.refusal) v ≡ Ok b → NoneHolds (c ∷ cs) × (b ≡ bus)
+none_of c cs v bus b f true h q = cc
 none_of c cs v bus b f false h q = let r = f q in ((h, r.0), r.1)
 
 -- an accepted call has no cause that holds
-pub accepted_by_none_lem : (causes : List Cause) (bus b : Bus) → judged causes bus ≡ Accepted b → NoneHolds causes × (b ≡ bus)
+pub accepted_by_none_lem : (causes : List Cause) (bus b : Bus) → judged causes bus ≡ Ok b → NoneHolds causes × (b ≡ bus)
 unfolding judged
 accepted_by_none_lem [] bus b p = (tt, cc)
 accepted_by_none_lem (c ∷ cs) bus b p = none_of c cs (judged cs bus) bus b (λ q. accepted_by_none_lem cs bus b q) c.holds refl p
 
 -- where no cause holds the call is accepted
-pub none_accepts_lem : (causes : List Cause) (bus : Bus) → NoneHolds causes → judged causes bus ≡ Accepted bus
+pub none_accepts_lem : (causes : List Cause) (bus : Bus) → NoneHolds causes → judged causes bus ≡ Ok bus
 unfolding judged
 none_accepts_lem [] bus n = refl
 none_accepts_lem (c ∷ cs) bus n = rw n.0 (none_accepts_lem cs bus n.1)
@@ -92,7 +89,7 @@ unfolding held_by judged
 in_order state causes = held_in_order (eqb (length state) record_length) (sound_bytes state) (record_of state) causes
 
 -- a verdict by a list that stands in document 01's order
-pub by_list : (v : Verdict) (causes : List Cause) (bus : Bus) → v ≡ judged causes bus → stand_in (numbers_of causes) document_order ≡ true → Ordered v causes bus
+pub by_list : (v : Result Bus Refusal) (causes : List Cause) (bus : Bus) → v ≡ judged causes bus → stand_in (numbers_of causes) document_order ≡ true → Ordered v causes bus
 by_list v causes bus p s =
     record {
       stand = s;

@@ -1,7 +1,7 @@
 -- Document 01, "Eight refusals", and document 02, Q-2, Q-3 and Q-4: the causes of each call, in the stated order, over the sound record that it was lent; and the judgement by
 -- them, once the record itself is judged. A slice comes in by its length; the state, the device record and a snapshot that is read by their bytes.
 -- Assumes nothing.
-use Rattle.std.specs.Prelude.{ℕ, Bool, not, ◌&&◌, List, [], ◌∷◌, ◌++◌, eqb, ltb, length}
+use Rattle.std.specs.Prelude.{ℕ, Bool, not, ◌&&◌, List, [], ◌∷◌, ◌++◌, eqb, ltb, length, Result}
 use Rattle.machine.specs.declared.ZXMachine.{ZXMachine}
 use Rattle.machine.specs.Numbers.{specs_of}
 use Rattle.machine.specs.Limits.{picture_length, border_length, page_length, longest_wait}
@@ -12,8 +12,8 @@ use Rattle.memory.specs.Screens.{screen_length, video_page}
 use Rattle.ports.specs.Devices.{flags_of, devices_length}
 use Rattle.snapshot.specs.File.{due_size, paging_in, copies_differ}
 use Rattle.snapshot.specs.Kept.{registers_length, snapshot_record}
+use Rattle.judgement.specs.declared.Refusal.{Refusal}
 use Rattle.judgement.specs.declared.Refusal.TheVariants.{BadMachine, BadLength, BadFlag, LongWait, FramesFull, BadPage, NoVideoPage, BadNumber, WrongSize, UnequalCopies}
-use Rattle.judgement.specs.declared.Verdict.{Verdict}
 use Rattle.judgement.specs.Refusals.{Cause, cause, judged, judge}
 use Rattle.judgement.specs.Answers.{timed_length, number_length}
 
@@ -78,7 +78,7 @@ abbrev pub start_colour_causes : ℕ → ℕ → ℕ → ℕ → ℕ → ℕ →
 start_colour_causes state ram a b border machine colour = start_causes state ram a b border machine ++ (above 7 colour ∷ [])
 
 -- accepted, with the record that it writes
-unfoldable pub judge_start : ℕ → ℕ → ℕ → ℕ → ℕ → ℕ → ℕ → Verdict
+unfoldable pub judge_start : ℕ → ℕ → ℕ → ℕ → ℕ → ℕ → ℕ → Result Bus Refusal
 judge_start state ram a b border machine colour =
     judged (start_colour_causes state ram a b border machine colour) (start_record (machine_of machine) colour)
 
@@ -87,7 +87,7 @@ abbrev pub wait_causes : ℕ → ℕ → ℕ → ℕ → ℕ → ℕ → Bus →
 wait_causes ram a b border clocks answer bus =
     unless (lent_fit bus ram a b border && timed_fits answer) ∷ long_wait clocks ∷ frames_full bus ∷ []
 
-unfoldable pub judge_wait : List ℕ → ℕ → ℕ → ℕ → ℕ → ℕ → ℕ → Verdict
+unfoldable pub judge_wait : List ℕ → ℕ → ℕ → ℕ → ℕ → ℕ → ℕ → Result Bus Refusal
 judge_wait state ram a b border clocks answer = judge state (wait_causes ram a b border clocks answer)
 
 -- port read and port write: "a device flag or the tape bit is above 1"
@@ -96,67 +96,67 @@ port_causes devices ram a b border answer bus =
     unless (eqb (length devices) devices_length && lent_fit bus ram a b border && timed_fits answer)
     ∷ cause BadFlag (not (flags_of devices)) ∷ frames_full bus ∷ []
 
-unfoldable pub judge_port : List ℕ → List ℕ → ℕ → ℕ → ℕ → ℕ → ℕ → Verdict
+unfoldable pub judge_port : List ℕ → List ℕ → ℕ → ℕ → ℕ → ℕ → ℕ → Result Bus Refusal
 judge_port state devices ram a b border answer = judge state (port_causes devices ram a b border answer)
 
 -- the record alone
 abbrev pub no_causes : Bus → List Cause
 no_causes bus = []
 
-unfoldable pub judge_state : List ℕ → Verdict
+unfoldable pub judge_state : List ℕ → Result Bus Refusal
 judge_state state = judge state no_causes
 
 -- the record with a number to give
 abbrev pub told_causes : ℕ → Bus → List Cause
 told_causes answer bus = unless (number_fits answer) ∷ []
 
-unfoldable pub judge_told : List ℕ → ℕ → Verdict
+unfoldable pub judge_told : List ℕ → ℕ → Result Bus Refusal
 judge_told state answer = judge state (told_causes answer)
 
 -- byte read and byte write
 abbrev pub read_causes : ℕ → ℕ → ℕ → Bus → List Cause
 read_causes rom ram answer bus = unless (rom_fits bus rom && ram_fits bus ram && number_fits answer) ∷ []
 
-unfoldable pub judge_read : List ℕ → ℕ → ℕ → ℕ → Verdict
+unfoldable pub judge_read : List ℕ → ℕ → ℕ → ℕ → Result Bus Refusal
 judge_read state rom ram answer = judge state (read_causes rom ram answer)
 
 abbrev pub write_causes : ℕ → Bus → List Cause
 write_causes ram bus = unless (ram_fits bus ram) ∷ []
 
-unfoldable pub judge_write : List ℕ → ℕ → Verdict
+unfoldable pub judge_write : List ℕ → ℕ → Result Bus Refusal
 judge_write state ram = judge state (write_causes ram)
 
 -- page load
 abbrev pub load_causes : ℕ → ℕ → ℕ → Bus → List Cause
 load_causes ram bytes page bus = unless (ram_fits bus ram && eqb bytes page_length) ∷ bad_page bus page ∷ []
 
-unfoldable pub judge_load : List ℕ → ℕ → ℕ → ℕ → Verdict
+unfoldable pub judge_load : List ℕ → ℕ → ℕ → ℕ → Result Bus Refusal
 judge_load state ram bytes page = judge state (load_causes ram bytes page)
 
 -- the three that hand back a part: `fits` says that the answer has its length, which C lends and a Rattle caller does not; there it is true
 abbrev pub ram_page_causes : ℕ → ℕ → Bool → Bus → List Cause
 ram_page_causes ram page fits bus = unless (ram_fits bus ram && fits) ∷ bad_page bus page ∷ []
 
-unfoldable pub judge_ram_page : List ℕ → ℕ → ℕ → Bool → Verdict
+unfoldable pub judge_ram_page : List ℕ → ℕ → ℕ → Bool → Result Bus Refusal
 judge_ram_page state ram page fits = judge state (ram_page_causes ram page fits)
 
 abbrev pub block_causes : ℕ → ℕ → ℕ → Bool → Bus → List Cause
 block_causes rom ram block fits bus = unless (rom_fits bus rom && ram_fits bus ram && fits) ∷ above 3 block ∷ []
 
-unfoldable pub judge_block : List ℕ → ℕ → ℕ → ℕ → Bool → Verdict
+unfoldable pub judge_block : List ℕ → ℕ → ℕ → ℕ → Bool → Result Bus Refusal
 judge_block state rom ram block fits = judge state (block_causes rom ram block fits)
 
 abbrev pub shown_causes : ℕ → ℕ → Bool → Bus → List Cause
 shown_causes a b fits bus = unless (picture_fits a && picture_fits b && fits) ∷ []
 
-unfoldable pub judge_shown : List ℕ → ℕ → ℕ → Bool → Verdict
+unfoldable pub judge_shown : List ℕ → ℕ → ℕ → Bool → Result Bus Refusal
 judge_shown state a b fits = judge state (shown_causes a b fits)
 
 -- the still picture
 abbrev pub still_causes : ℕ → ℕ → ℕ → Bus → List Cause
 still_causes ram picture flash bus = unless (ram_fits bus ram && picture_fits picture) ∷ above 1 flash ∷ []
 
-unfoldable pub judge_still : List ℕ → ℕ → ℕ → ℕ → Verdict
+unfoldable pub judge_still : List ℕ → ℕ → ℕ → ℕ → Result Bus Refusal
 judge_still state ram picture flash = judge state (still_causes ram picture flash)
 
 -- screen files (02, Q-2): "a lent file of 6,912"; saving judges no page, since "the shown page always is one"
@@ -166,13 +166,13 @@ screen_fits bus ram file = ram_fits bus ram && eqb file screen_length
 abbrev pub save_scr_causes : ℕ → ℕ → Bus → List Cause
 save_scr_causes ram file bus = unless (screen_fits bus ram file) ∷ []
 
-unfoldable pub judge_save_scr : List ℕ → ℕ → ℕ → Verdict
+unfoldable pub judge_save_scr : List ℕ → ℕ → ℕ → Result Bus Refusal
 judge_save_scr state ram file = judge state (save_scr_causes ram file)
 
 abbrev pub load_scr_causes : ℕ → ℕ → ℕ → Bus → List Cause
 load_scr_causes ram file page bus = unless (screen_fits bus ram file) ∷ bad_page bus page ∷ no_video_page bus page ∷ []
 
-unfoldable pub judge_load_scr : List ℕ → ℕ → ℕ → ℕ → Verdict
+unfoldable pub judge_load_scr : List ℕ → ℕ → ℕ → ℕ → Result Bus Refusal
 judge_load_scr state ram file page = judge state (load_scr_causes ram file page)
 
 -- snapshots (02, Q-4): "10 when the size is not the one due for the machine and, on 128K, for the file's 7FFD byte, or the record's when writing"
@@ -197,7 +197,7 @@ load_sna_causes state ram registers a b border machine file =
     ∷ []
 
 -- accepted, with the record that it writes
-unfoldable pub judge_load_sna : ℕ → ℕ → ℕ → ℕ → ℕ → ℕ → ℕ → List ℕ → Verdict
+unfoldable pub judge_load_sna : ℕ → ℕ → ℕ → ℕ → ℕ → ℕ → ℕ → List ℕ → Result Bus Refusal
 judge_load_sna state ram registers a b border machine file =
     judged (load_sna_causes state ram registers a b border machine file) (snapshot_record (machine_of machine) file)
 
@@ -206,5 +206,5 @@ abbrev pub save_sna_causes : ℕ → ℕ → ℕ → Bus → List Cause
 save_sna_causes ram file registers bus =
     unless (export_fits bus ram registers) ∷ wrong_size bus.machine bus.paging file ∷ []
 
-unfoldable pub judge_save_sna : List ℕ → ℕ → ℕ → ℕ → Verdict
+unfoldable pub judge_save_sna : List ℕ → ℕ → ℕ → ℕ → Result Bus Refusal
 judge_save_sna state ram file registers = judge state (save_sna_causes ram file registers)

@@ -1,13 +1,11 @@
 -- What it means that a refusal is "the first, in the stated order, of the numbered refusals whose condition holds", apart from the way in
 -- which `judged` finds it; and all the causes of a call in one list, those of the record first.
 -- Assumes nothing.
-use Rattle.std.specs.Prelude.{ℕ, ◌≡◌, Bool, true, false, cond, not, List, [], ◌∷◌, ◌++◌, map, eqb, length}
+use Rattle.std.specs.Prelude.{ℕ, ◌≡◌, Bool, true, false, cond, not, List, [], ◌∷◌, ◌++◌, map, eqb, length, Result, Ok, Err}
 use Rattle.record.specs.declared.Bus.{Bus}
 use Rattle.record.specs.Record.{record_length, record_of, sound_bytes}
 use Rattle.judgement.specs.declared.Refusal.{Refusal}
 use Rattle.judgement.specs.declared.Refusal.TheVariants.{BadLength, Unsound}
-use Rattle.judgement.specs.declared.Verdict.{Verdict}
-use Rattle.judgement.specs.declared.Verdict.TheVariants.{Refused, Accepted}
 use Rattle.judgement.specs.Refusals.{refusal_number, Cause, cause}
 
 -- no condition holds
@@ -49,12 +47,12 @@ stand_in (x ∷ xs) (y ∷ ys) = cond (eqb x y) (stand_in xs ys) (stand_in (x �
 
 -- A verdict by a list of causes: they stand in document 01's order; the call is refused by e exactly when the first of them that holds has e,
 -- and accepted exactly when none holds, then with this record.
-pub record Ordered (v : Verdict) (causes : List Cause) (bus : Bus) : Type 0 where
+pub record Ordered (v : Result Bus Refusal) (causes : List Cause) (bus : Bus) : Type 0 where
   pub stand : stand_in (numbers_of causes) document_order ≡ true
-  pub refused_by_first : (e : Refusal) → v ≡ Refused e → FirstHolds causes e
-  pub first_refuses : (e : Refusal) → FirstHolds causes e → v ≡ Refused e
-  pub accepted_by_none : (b : Bus) → v ≡ Accepted b → NoneHolds causes × (b ≡ bus)
-  pub none_accepts : NoneHolds causes → v ≡ Accepted bus
+  pub refused_by_first : (e : Refusal) → v ≡ Err e → FirstHolds causes e
+  pub first_refuses : (e : Refusal) → FirstHolds causes e → v ≡ Err e
+  pub accepted_by_none : (b : Bus) → v ≡ Ok b → NoneHolds causes × (b ≡ bus)
+  pub none_accepts : NoneHolds causes → v ≡ Ok bus
 
 -- The number that a call returns, by its causes: 0 exactly when none holds, and a refusal's number exactly when the first that holds has it.
 pub record Numbered (code : ℕ) (causes : List Cause) : Type 0 where

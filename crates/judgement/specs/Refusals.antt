@@ -8,8 +8,6 @@ use Rattle.record.specs.Record.{held_by}
 use Rattle.judgement.specs.declared.Refusal.{Refusal}
 use Rattle.judgement.specs.declared.Refusal.TheVariants.{BadMachine, BadLength, Unsound, BadFlag, LongWait, FramesFull, BadPage, BadNumber, NoVideoPage, WrongSize, UnequalCopies}
 use Rattle.judgement.specs.declared.Causes.{Causes}
-use Rattle.judgement.specs.declared.Verdict.{Verdict}
-use Rattle.judgement.specs.declared.Verdict.TheVariants.{Refused, Accepted}
 
 -- the table's numbers; "9 for a page that isn't a video page" (02, Q-2); "10 when the size is not the one due", "11 for unequal copies" (02, Q-4)
 abbrev pub refusal_number : Refusal → ℕ
@@ -34,9 +32,9 @@ abbrev pub cause : Refusal → Bool → Cause
 cause refusal holds = record { holds = holds; refusal = refusal }
 
 -- "the first, in the stated order, of the numbered refusals whose condition holds; good input gets none"
-unfoldable pub judged : List Cause → Bus → Verdict
-judged [] bus = Accepted bus
-judged (c ∷ cs) bus = cond c.holds (Refused c.refusal) (judged cs bus)
+unfoldable pub judged : List Cause → Bus → Result Bus Refusal
+judged [] bus = Ok bus
+judged (c ∷ cs) bus = cond c.holds (Err c.refusal) (judged cs bus)
 
 -- "other lengths, 4, 5, 6, 7, 8", 9 "after 7", and 10 behind them: the code's causes behind the record, by their names, as a list
 abbrev pub in_turn : Causes → List Cause
@@ -45,10 +43,13 @@ in_turn c =
     ∷ cause NoVideoPage c.video ∷ cause BadNumber c.number ∷ cause WrongSize c.size ∷ []
 
 -- "Order: 1, record length, 3, other lengths, 4, 5, 6, 7, 8.": the record is judged before what depends on it
-abbrev pub judged_held : Result Bus BadRecord → (Bus → List Cause) → Verdict
-judged_held (Err bad.WrongLength) causes = Refused BadLength
-judged_held (Err bad.Unsound) causes = Refused Unsound
+abbrev pub of_record : BadRecord → Refusal
+of_record bad.WrongLength = BadLength
+of_record bad.Unsound = Unsound
+
+abbrev pub judged_held : Result Bus BadRecord → (Bus → List Cause) → Result Bus Refusal
+judged_held (Err bad) causes = Err (of_record bad)
 judged_held (Ok bus) causes = judged (causes bus) bus
 
-abbrev pub judge : List ℕ → (Bus → List Cause) → Verdict
+abbrev pub judge : List ℕ → (Bus → List Cause) → Result Bus Refusal
 judge state causes = judged_held (held_by state) causes

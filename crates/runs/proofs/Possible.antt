@@ -9,16 +9,17 @@ use native.Mathlib.Omega.{arith}
 use lib.Dec.{eqb}
 use lib.ListN.{length}
 use borrow.Author.Tests.{eqb-true, eqb-false, ltb-false}
+use Rattle.std.specs.Prelude.{Result as StdResult, Ok, Err}
 use Rattle.machine.specs.declared.ZXMachine.{ZXMachine}
 use Rattle.machine.specs.Limits.{longest_wait}
+use Rattle.record.specs.declared.Bus.{Bus}
 use Rattle.ports.specs.Devices.{devices_of}
 use Rattle.bus.specs.World.{Core, World}
 use Rattle.bus.specs.Time.{Op, does, world_after}
 use Rattle.bus.specs.Turns.{Part, fresh}
 use Rattle.bus.proofs.Runs.{ran_world}
 use Rattle.bus.proofs.TimedCalls.{AllInCall, op_ram, address_timed, read_timed, write_timed}
-use Rattle.judgement.specs.declared.Verdict.{Verdict}
-use Rattle.judgement.specs.declared.Verdict.TheVariants.{Refused, Accepted}
+use Rattle.judgement.specs.declared.Refusal.{Refusal}
 use Rattle.judgement.specs.Order.{NoneHolds}
 use Rattle.contracts.specs.Timed.{Lent, lent_world, lent, outcome, timed_call, judge_wait_of, judge_port_of, wait_internal, wait_at, read_io, write_io}
 use Rattle.contracts.specs.Calls.{Start, plain_start, colour_start, snapshot_start, TimedCall, plain, mreq, no_mreq, port_in, port_out, Helper, line_addr, line_of, column_of, attr_row_of, attr_column_of, colour_bits, Question, byte_read, paging_read, interrupt_asked, frames_asked, page_asked, block_asked, shown_asked, still_asked, file_asked, snapshot_asked, help, Call, start_again, take_time, write_byte, write_paging, reset_passed, load_ram, load_screen, ask, Result, waited, timed_ops, helped_by, replied, performed, timed_causes}
@@ -35,10 +36,10 @@ ram_stays m [] w i = refl
 ram_stays m (o ∷ os) w i = ram_stays m os (does m o w) i.1 ∙ op_ram m o w.core i.0
 
 timed_ram : (f : ZXMachine → Part) (value : ZXMachine → Core → ℕ) (l : Lent) (answer : List ℕ) → ((m : ZXMachine) (c : Core) → AllInCall m (f m c))
-    → (v : Verdict) → (timed_call f value l answer v).slices.ram ≡ l.ram
+    → (v : StdResult Bus Refusal) → (timed_call f value l answer v).slices.ram ≡ l.ram
 unfolding timed_call
-timed_ram f value l answer i (Refused e) = refl
-timed_ram f value l answer i (Accepted bus) =
+timed_ram f value l answer i (Err e) = refl
+timed_ram f value l answer i (Ok bus) =
     let m = bus.machine in
     let w = lent_world bus l in
     ap (λ (v : World). v.core.ram) (ran_world (f m w.core) (fresh m w)) ∙ ram_stays m (f m w.core) w (i m w.core)

@@ -7,6 +7,7 @@ use mathlib.Core.List.{List, [], ◌∷◌}
 use borrow.Author.Tests.{eq-eqb, leb-true, leb-false, lt-ltb, le-ltb}
 use lib.Dec.{ltb, leb}
 use lib.ListN.{length}
+use Rattle.std.specs.Prelude.{Result, Ok, Err}
 use Rattle.laws.proofs.Cases.{and_both}
 use Rattle.machine.specs.declared.ZXMachine.{ZXMachine}
 use Rattle.machine.specs.Numbers.{specs_of}
@@ -18,8 +19,6 @@ use Rattle.record.proofs.Round.{held_decode, held_sound}
 use Rattle.memory.specs.Paging.{page_exists}
 use Rattle.judgement.specs.declared.Refusal.{Refusal}
 use Rattle.judgement.specs.declared.Refusal.TheVariants.{BadPage, BadNumber}
-use Rattle.judgement.specs.declared.Verdict.{Verdict}
-use Rattle.judgement.specs.declared.Verdict.TheVariants.{Refused, Accepted}
 use Rattle.judgement.specs.Refusals.{cause, judged}
 use Rattle.judgement.specs.Judges.{ram_fits, rom_fits, unless, judge_load, judge_ram_page, judge_block}
 use Rattle.contracts.specs.Timed.{Lent, lent_world}
@@ -29,18 +28,18 @@ use Rattle.rustzx.specs.Related.{Related}
 use Rattle.surface.specs.Same.{SameLent}
 
 -- where the lengths are right, the number alone decides
-decided : (e : Refusal) (fit good : Bool) (bus : Bus) → fit ≡ true → judged (unless fit ∷ cause e (not good) ∷ []) bus ≡ cond good (Accepted bus) (Refused e)
+decided : (e : Refusal) (fit good : Bool) (bus : Bus) → fit ≡ true → judged (unless fit ∷ cause e (not good) ∷ []) bus ≡ cond good (Ok bus) (Err e)
 unfolding judged
 decided e fit true bus f = rw f
 decided e fit false bus f = rw f
 
-pub told_code : (number : Bus → ℕ) (answer : List ℕ) (v : Verdict) → (tell number answer v).code ≡ code_of v
-told_code number answer (Refused e) = refl
-told_code number answer (Accepted bus) = refl
+pub told_code : (number : Bus → ℕ) (answer : List ℕ) (v : Result Bus Refusal) → (tell number answer v).code ≡ code_of v
+told_code number answer (Err e) = refl
+told_code number answer (Ok bus) = refl
 
-pub changed_code : (new : Bus → List ℕ) (old : List ℕ) (v : Verdict) → (change new old v).code ≡ code_of v
-changed_code new old (Refused e) = refl
-changed_code new old (Accepted bus) = refl
+pub changed_code : (new : Bus → List ℕ) (old : List ℕ) (v : Result Bus Refusal) → (change new old v).code ≡ code_of v
+changed_code new old (Err e) = refl
+changed_code new old (Ok bus) = refl
 
 beyond : (block : ℕ) (t : Bool) → leb block 3 ≡ t → ltb 3 block ≡ not t
 beyond block true e = let h = leb-true block 3 e in le-ltb 3 block h
@@ -85,18 +84,18 @@ module _ (rom : List ℕ) (c : ZXController) (l : Lent) (s : SameLent rom c l) w
   rom_fits_lem = eq-eqb (length rom) (specs_of m).rom rom_is_lem
 
   pub load_judged : (bytes number : ℕ) → bytes ≡ 16384
-      → judge_load l.state (length l.ram) bytes number ≡ cond (page_exists m number) (Accepted bus) (Refused BadPage)
+      → judge_load l.state (length l.ram) bytes number ≡ cond (page_exists m number) (Ok bus) (Err BadPage)
   unfolding judge_load
   load_judged bytes number e = rw s.is_held (decided BadPage _ (page_exists m number) bus (and_both _ _ ram_fits_lem (eq-eqb bytes 16384 e)))
 
   -- of the three that hand back a part, to C whose answer has its length, and to a Rattle caller, who lends none
   pub ram_page_judged : (number : ℕ) (fits : Bool) → fits ≡ true
-      → judge_ram_page l.state (length l.ram) number fits ≡ cond (page_exists m number) (Accepted bus) (Refused BadPage)
+      → judge_ram_page l.state (length l.ram) number fits ≡ cond (page_exists m number) (Ok bus) (Err BadPage)
   unfolding judge_ram_page
   ram_page_judged number fits e = rw s.is_held (decided BadPage _ (page_exists m number) bus (and_both _ _ ram_fits_lem e))
 
   pub block_judged : (block : ℕ) (fits : Bool) → fits ≡ true
-      → judge_block l.state (length rom) (length l.ram) block fits ≡ cond (leb block 3) (Accepted bus) (Refused BadNumber)
+      → judge_block l.state (length rom) (length l.ram) block fits ≡ cond (leb block 3) (Ok bus) (Err BadNumber)
   unfolding judge_block
   block_judged block fits e =
       rw (s.is_held, beyond block (leb block 3) refl) (decided BadNumber _ (leb block 3) bus (and_both _ _ (and_both _ _ rom_fits_lem ram_fits_lem) e))

@@ -8,6 +8,7 @@ use mathlib.Core.List.{List}
 use lib.Dec.{leb}
 use borrow.Author.Tests.{eq-eqb}
 use lib.ListN.{length}
+use Rattle.std.specs.Prelude.{Result, Ok, Err}
 use Rattle.machine.specs.declared.ZXMachine.{ZXMachine}
 use Rattle.machine.specs.Numbers.{specs_of}
 use Rattle.record.specs.declared.Bus.{Bus}
@@ -15,8 +16,6 @@ use Rattle.memory.specs.Paging.{page_exists}
 use Rattle.bus.specs.World.{World}
 use Rattle.judgement.specs.declared.Refusal.{Refusal}
 use Rattle.judgement.specs.declared.Refusal.TheVariants.{BadPage, BadNumber}
-use Rattle.judgement.specs.declared.Verdict.{Verdict}
-use Rattle.judgement.specs.declared.Verdict.TheVariants.{Refused, Accepted}
 use Rattle.judgement.specs.Refusals.{refusal_number}
 use Rattle.judgement.specs.Judges.{number_fits, judge_load, judge_ram_page, judge_block}
 use Rattle.contracts.specs.Timed.{Lent, lent_world}
@@ -61,7 +60,7 @@ module _ (rom : List ℕ) (c : ZXController) (l : Lent) (s : SameLent rom c l) w
   block_panics block e = rw (rw e at (bank_type_is c.memory block))
 
   -- a call whose number alone decides, beside the Rust's
-  by_number : (k : Call) (e : Refusal) (good : Bool) (v : Verdict) → v ≡ cond good (Accepted bus) (Refused e) → (good ≡ true → rust.Accepted m k w)
+  by_number : (k : Call) (e : Refusal) (good : Bool) (v : Result Bus Refusal) → v ≡ cond good (Ok bus) (Err e) → (good ≡ true → rust.Accepted m k w)
       → (good ≡ false → performed k c ≡ panics) → SameRefusal (refusal_number e) (performed k c) (ulb.code_of v)
   by_number k e true v p ok fails = rw (p, (agrees m rom c w s.machine s.related k (sound rom c l s) (ok refl)).ends) refl
   by_number k e false v p ok fails = rw (p, fails refl) refl

@@ -7,6 +7,7 @@ use mathlib.Core.List.{List, [], ◌∷◌}
 use lib.ListN.{length}
 use mathlib.Core.Bool.{true}
 use borrow.Author.Tests.{le-leb}
+use Rattle.std.specs.Prelude.{Result, Ok}
 use Rattle.machine.specs.declared.ZXMachine.{ZXMachine}
 use Rattle.machine.specs.Timing.{interrupt}
 use Rattle.record.specs.declared.Bus.{Bus}
@@ -26,8 +27,7 @@ use Rattle.bus.specs.Turns.{fresh}
 use Rattle.bus.specs.Calls.{paging_ops, paging_write}
 use Rattle.bus.proofs.Runs.{ran_world}
 use Rattle.bus.proofs.Kept.{SoundWorld}
-use Rattle.judgement.specs.declared.Verdict.{Verdict}
-use Rattle.judgement.specs.declared.Verdict.TheVariants.{Accepted}
+use Rattle.judgement.specs.declared.Refusal.{Refusal}
 use Rattle.judgement.specs.Judges.{judge_state, judge_told, judge_read, judge_write, judge_load, judge_ram_page, judge_block, judge_shown, judge_save_scr, judge_load_scr}
 use Rattle.judgement.proofs.Accepted.{ready_state, ready_told, ready_read, ready_write, ready_load, ready_ram_page, ready_block, ready_shown, ready_save_scr, ready_load_scr}
 use Rattle.contracts.specs.Plain as ulb
@@ -50,14 +50,14 @@ module _ (bus : Bus) (ram a b border rom : List ℕ) (c : ZXController) (its : o
   w = world_of bus ram a b border
 
   -- ---- numbers
-  same_told : (k : Call) (number : Bus → ℕ) (answer : List ℕ) (v : Verdict) → v ≡ Accepted bus → Sound bus → rust.Accepted m k w
+  same_told : (k : Call) (number : Bus → ℕ) (answer : List ℕ) (v : Result Bus Refusal) → v ≡ Ok bus → Sound bus → rust.Accepted m k w
       → answer_of m rom k w ≡ number bus ∷ [] → SameTold k c (tell number answer v)
   same_told k number answer v e sound ok same =
       let g = agrees m rom c w its r k sound ok in
       rw e (record { given = g.value; number = number bus; ends = g.ends; code = refl; answer = refl; valued = g.holds.0 ∙ same })
 
   -- ULB_READ_INTERNAL is read_internal, where the ROM that is lent is the Rust's.
-  pub read_internal_same : (state : List ℕ) (addr : ℕ) (answer : List ℕ) → judge_read state (length rom) (length ram) (length answer) ≡ Accepted bus
+  pub read_internal_same : (state : List ℕ) (addr : ℕ) (answer : List ℕ) → judge_read state (length rom) (length ram) (length answer) ≡ Ok bus
       → SameTold (rust.read_internal addr) c (ulb.read_internal state rom ram addr answer)
   unfolding ulb.read_internal answer_of
   read_internal_same state addr answer e =
@@ -65,18 +65,18 @@ module _ (bus : Bus) (ram a b border rom : List ℕ) (c : ZXController) (its : o
       (ready_read state bus (length rom) (length ram) (length answer) e).on_record.sound tt refl
 
   -- ULB_READ_7FFD, ULB_INT_ACTIVE and ULB_FRAMES_COUNT are read_7ffd, int_active and frames_count.
-  pub read_7ffd_same : (state answer : List ℕ) → judge_told state (length answer) ≡ Accepted bus → SameTold rust.read7ffd c (ulb.read7ffd state answer)
+  pub read_7ffd_same : (state answer : List ℕ) → judge_told state (length answer) ≡ Ok bus → SameTold rust.read7ffd c (ulb.read7ffd state answer)
   unfolding ulb.read7ffd answer_of
   read_7ffd_same state answer e =
       same_told rust.read7ffd (λ x. x.paging) answer (judge_told state (length answer)) e (ready_told state bus (length answer) e).on_record.sound tt refl
 
-  pub int_active_same : (state answer : List ℕ) → judge_told state (length answer) ≡ Accepted bus → SameTold rust.int_active c (ulb.int_active state answer)
+  pub int_active_same : (state answer : List ℕ) → judge_told state (length answer) ≡ Ok bus → SameTold rust.int_active c (ulb.int_active state answer)
   unfolding ulb.int_active answer_of
   int_active_same state answer e =
       same_told rust.int_active (λ x. flag_byte (interrupt x.clock)) answer (judge_told state (length answer)) e
       (ready_told state bus (length answer) e).on_record.sound tt refl
 
-  pub frames_count_same : (state answer : List ℕ) → judge_told state (length answer) ≡ Accepted bus → SameTold rust.frames_count c (ulb.frames_count state answer)
+  pub frames_count_same : (state answer : List ℕ) → judge_told state (length answer) ≡ Ok bus → SameTold rust.frames_count c (ulb.frames_count state answer)
   unfolding ulb.frames_count answer_of
   frames_count_same state answer e =
       same_told rust.frames_count (λ x. x.passed) answer (judge_told state (length answer)) e (ready_told state bus (length answer) e).on_record.sound tt refl
@@ -89,21 +89,21 @@ module _ (bus : Bus) (ram a b border rom : List ℕ) (c : ZXController) (its : o
 
   -- The RAM page by number is ram_page_data; the 16 KiB at a block is the data of the page that get_bank_type names; the shown picture is the
   -- screen's frame_buffer.
-  pub ram_page_same : (state : List ℕ) (number : ℕ) → judge_ram_page state (length ram) number true ≡ Accepted bus
+  pub ram_page_same : (state : List ℕ) (number : ℕ) → judge_ram_page state (length ram) number true ≡ Ok bus
       → SamePart (rust.ram_page_of number) c (ulb.ram_page_part state ram number)
   unfolding ulb.ram_page_part answer_of
   ram_page_same state number e =
       let h = ready_ram_page state bus (length ram) number true e in
       rw e (same_part (rust.ram_page_of number) _ h.on_record.sound h.exists refl)
 
-  pub block_same : (state : List ℕ) (block : ℕ) → judge_block state (length rom) (length ram) block true ≡ Accepted bus
+  pub block_same : (state : List ℕ) (block : ℕ) → judge_block state (length rom) (length ram) block true ≡ Ok bus
       → SamePart (rust.block_of block) c (ulb.block_part state rom ram block)
   unfolding ulb.block_part answer_of
   block_same state block e =
       let h = ready_block state bus (length rom) (length ram) block true e in
       rw e (same_part (rust.block_of block) _ h.on_record.sound (le-leb block 3 h.block_in) refl)
 
-  pub shown_same : (state : List ℕ) → judge_shown state (length a) (length b) true ≡ Accepted bus → SamePart rust.screen_buffer c (ulb.shown_part state a b)
+  pub shown_same : (state : List ℕ) → judge_shown state (length a) (length b) true ≡ Ok bus → SamePart rust.screen_buffer c (ulb.shown_part state a b)
   unfolding ulb.shown_part answer_of
   shown_same state e = rw e (same_part rust.screen_buffer _ (ready_shown state bus (length a) (length b) true e).on_record.sound tt refl)
 
@@ -124,7 +124,7 @@ module _ (bus : Bus) (ram a b border rom : List ℕ) (c : ZXController) (its : o
   poked_is (Ram at) value = refl
 
   -- ULB_WRITE_INTERNAL is write_internal: the RAM that it leaves is the Rust's, with the rest of the machine as it was.
-  pub write_internal_same : (state : List ℕ) (addr value : ℕ) → judge_write state (length ram) ≡ Accepted bus
+  pub write_internal_same : (state : List ℕ) (addr value : ℕ) → judge_write state (length ram) ≡ Ok bus
       → SameMove rom (rust.write_internal addr value) c (world_of bus (ulb.write_internal state ram addr value).slice a b border)
   unfolding ulb.write_internal part_of
   write_internal_same state addr value e =
@@ -137,7 +137,7 @@ module _ (bus : Bus) (ram a b border rom : List ℕ) (c : ZXController) (its : o
   loaded_is number bytes = refl
 
   -- ULB_LOAD_PAGE is the copy into ram_page_data_mut and the refresh that follows it.
-  pub load_page_same : (state bytes : List ℕ) (number : ℕ) → judge_load state (length ram) (length bytes) number ≡ Accepted bus
+  pub load_page_same : (state bytes : List ℕ) (number : ℕ) → judge_load state (length ram) (length bytes) number ≡ Ok bus
       → SameMove rom (rust.load_page number bytes) c (world_of bus (ulb.load_page state ram bytes number).slice a b border)
   unfolding ulb.load_page part_of
   load_page_same state bytes number e =
@@ -147,7 +147,7 @@ module _ (bus : Bus) (ram a b border rom : List ℕ) (c : ZXController) (its : o
       (ran_world (page_load number bytes w.core) (fresh m w) ∙ loaded_is number bytes))
 
   -- ULB_LOAD_SCR is the same load of the page's bytes with the file in front.
-  pub load_scr_same : (state file : List ℕ) (number : ℕ) → judge_load_scr state (length ram) (length file) number ≡ Accepted bus
+  pub load_scr_same : (state file : List ℕ) (number : ℕ) → judge_load_scr state (length ram) (length file) number ≡ Ok bus
       → SameMove rom (rust.load_page number (with_front file (ram_page number ram))) c (world_of bus (ulb.load_scr state ram file number).slice a b border)
   unfolding ulb.load_scr part_of
   load_scr_same state file number e =
@@ -161,7 +161,7 @@ module _ (bus : Bus) (ram a b border rom : List ℕ) (c : ZXController) (its : o
       ∙ ap (λ (x : List ℕ). world_of bus x a b border) (sym (loaded_front number file ram fits few))))
 
   -- ULB_SAVE_SCR is the file of what ram_page_data gives for the Rust's own screen_bank.
-  pub save_scr_same : (state file : List ℕ) → judge_save_scr state (length ram) (length file) ≡ Accepted bus → SameFile c (ulb.save_scr state ram file).slice
+  pub save_scr_same : (state file : List ℕ) → judge_save_scr state (length ram) (length file) ≡ Ok bus → SameFile c (ulb.save_scr state ram file).slice
   unfolding ulb.save_scr answer_of
   save_scr_same state file e =
       let h = ready_save_scr state bus (length ram) (length file) e in
@@ -175,7 +175,7 @@ module _ (bus : Bus) (ram a b border rom : List ℕ) (c : ZXController) (its : o
   reset_is = refl
 
   -- ULB_RESET_FRAME_COUNTER is reset_frame_counter: the record that it leaves is that of the Rust's state.
-  pub reset_same : (state : List ℕ) → judge_state state ≡ Accepted bus
+  pub reset_same : (state : List ℕ) → judge_state state ≡ Ok bus
       → ((ulb.reset_frames state).slice ≡ record_bytes (with_passed 0 bus)) × SameMove rom rust.reset_frame_counter c (world_of (with_passed 0 bus) ram a b border)
   unfolding ulb.reset_frames part_of
   reset_same state e =
@@ -191,7 +191,7 @@ module _ (bus : Bus) (ram a b border rom : List ℕ) (c : ZXController) (its : o
   repaged_is (paging.Taken v) = refl
 
   -- ULB_WRITE_7FFD is write_7ffd, of a byte; its number is 5 or 6 by whether the Rust's paging was enabled, and 0 on 48K.
-  pub write_7ffd_same : (state : List ℕ) (value : ℕ) (answer : List ℕ) → value < 256 → judge_told state (length answer) ≡ Accepted bus
+  pub write_7ffd_same : (state : List ℕ) (value : ℕ) (answer : List ℕ) → value < 256 → judge_told state (length answer) ≡ Ok bus
       → ((ulb.write7ffd_call state value answer).state ≡ record_bytes (with_paging (paging_after (write7ffd m bus.paging value) bus.paging) bus))
       × SameTold (rust.write7ffd value) c (ulb.told (ulb.write7ffd_call state value answer).code (ulb.write7ffd_call state value answer).answer)
       × SameMove rom (rust.write7ffd value) c (world_of (with_paging (paging_after (write7ffd m bus.paging value) bus.paging) bus) ram a b border)
@@ -201,7 +201,7 @@ module _ (bus : Bus) (ram a b border rom : List ℕ) (c : ZXController) (its : o
       let number : Bus → ℕ = λ x. paged_code (write7ffd x.machine x.paging value) in
       rw e (
         refl,
-        same_told (rust.write7ffd value) number answer (Accepted bus) refl sound byte refl,
+        same_told (rust.write7ffd value) number answer (Ok bus) refl sound byte refl,
         same_move (rust.write7ffd value) (world_of (with_paging (paging_after (write7ffd m bus.paging value) bus.paging) bus) ram a b border) sound byte
             (ran_world (paging_write m value w.core) (fresh m w) ∙ repaged_is (write7ffd m bus.paging value)),
       )

@@ -8,6 +8,7 @@ use native.Mathlib.Omega.{arith}
 use lib.Dec.{ltb}
 use lib.ListN.{length}
 use borrow.Author.Tests.{ltb-true}
+use Rattle.std.specs.Prelude.{Result, Ok}
 use Rattle.laws.proofs.Conjunction.{each}
 use Rattle.machine.specs.declared.ZXMachine.{ZXMachine}
 use Rattle.machine.specs.Timing.{interrupt}
@@ -19,8 +20,7 @@ use Rattle.bus.specs.Calls.{plain_wait, address_wait, port_read, read_value, por
 use Rattle.bus.proofs.Runs.{ran_machine}
 use Rattle.bus.proofs.Kept.{SoundWorld}
 use Rattle.bus.proofs.TimedCalls.{TimedPart, plain_timed, address_timed, read_timed, write_timed}
-use Rattle.judgement.specs.declared.Verdict.{Verdict}
-use Rattle.judgement.specs.declared.Verdict.TheVariants.{Accepted}
+use Rattle.judgement.specs.declared.Refusal.{Refusal}
 use Rattle.judgement.proofs.Accepted.{ready_wait, ready_port}
 use Rattle.contracts.specs.Timed as ulb
 use Rattle.contracts.specs.Timed.{Lent, lent_by, lent_world, timed_call, no_value, judge_wait_of, judge_port_of}
@@ -40,7 +40,7 @@ module _ (l : Lent) (bus : Bus) (rom : List ℕ) (c : ZXController) (its : our_m
   w = lent_world bus l
 
   -- any timed call: what the definition of the C call says when it is accepted, beside the Rust's
-  same_timed : (k : Call) (Valued : Given → ℕ → Type 0) (part : ZXMachine → Part) (value : ZXMachine → Core → ℕ) (answer : List ℕ) (v : Verdict) → v ≡ Accepted bus
+  same_timed : (k : Call) (Valued : Given → ℕ → Type 0) (part : ZXMachine → Part) (value : ZXMachine → Core → ℕ) (answer : List ℕ) (v : Result Bus Refusal) → v ≡ Ok bus
       → TimedPart m (part m) → part_of m k ≡ part m → SoundWorld m w → rust.Accepted m k w
       → ((g : Given) → g.answer ≡ answer_of m rom k w → Valued g (value m w.core))
       → SameTimed rom k Valued c (timed_call part value l answer v)
@@ -70,7 +70,7 @@ module _ (l : Lent) (bus : Bus) (rom : List ℕ) (c : ZXController) (its : our_m
       })
 
   -- ULB_WAIT_INTERNAL is wait_internal.
-  pub wait_same : (n : ℕ) (answer : List ℕ) → judge_wait_of l n answer ≡ Accepted bus → SameTimed rom (wait_internal n) NoValue c (ulb.wait_internal l n answer)
+  pub wait_same : (n : ℕ) (answer : List ℕ) → judge_wait_of l n answer ≡ Ok bus → SameTimed rom (wait_internal n) NoValue c (ulb.wait_internal l n answer)
   unfolding ulb.wait_internal part_of
   wait_same n answer e =
       let h = ready_wait l.state bus (length l.ram) (length l.a) (length l.b) (length l.border) n (length answer) e in
@@ -78,14 +78,14 @@ module _ (l : Lent) (bus : Bus) (rom : List ℕ) (c : ZXController) (its : our_m
       (plain_timed m n (omega (arith, h.short))) refl h.on_record.sound (h.short, h.room) (λ g q. refl)
 
   -- ULB_WAIT_MREQ is wait_mreq, and ULB_WAIT_NO_MREQ wait_no_mreq.
-  pub mreq_same : (addr n : ℕ) (answer : List ℕ) → judge_wait_of l n answer ≡ Accepted bus → SameTimed rom (wait_mreq addr n) NoValue c (ulb.wait_at l addr n answer)
+  pub mreq_same : (addr n : ℕ) (answer : List ℕ) → judge_wait_of l n answer ≡ Ok bus → SameTimed rom (wait_mreq addr n) NoValue c (ulb.wait_at l addr n answer)
   unfolding ulb.wait_at part_of
   mreq_same addr n answer e =
       let h = ready_wait l.state bus (length l.ram) (length l.a) (length l.b) (length l.border) n (length answer) e in
       same_timed (wait_mreq addr n) NoValue (λ k. address_wait k addr n) no_value answer (judge_wait_of l n answer) e
       (address_timed m addr n h.short) refl h.on_record.sound (h.short, h.room) (λ g q. refl)
 
-  pub no_mreq_same : (addr n : ℕ) (answer : List ℕ) → judge_wait_of l n answer ≡ Accepted bus → SameTimed rom (wait_no_mreq addr n) NoValue c (ulb.wait_at l addr n answer)
+  pub no_mreq_same : (addr n : ℕ) (answer : List ℕ) → judge_wait_of l n answer ≡ Ok bus → SameTimed rom (wait_no_mreq addr n) NoValue c (ulb.wait_at l addr n answer)
   unfolding ulb.wait_at part_of
   no_mreq_same addr n answer e =
       let h = ready_wait l.state bus (length l.ram) (length l.a) (length l.b) (length l.border) n (length answer) e in
@@ -100,7 +100,7 @@ module _ (l : Lent) (bus : Bus) (rom : List ℕ) (c : ZXController) (its : our_m
       (each (ltb (device_byte devices 24) 2) (ltb (device_byte devices 25) 2 ∷ ltb (device_byte devices 27) 2 ∷ ltb (device_byte devices 29) 2 ∷ ltb (device_byte devices 31) 2 ∷ []) e 0)
 
   -- ULB_READ_IO is read_io, its value among the answer's bytes.
-  pub read_same : (devices : List ℕ) (port : ℕ) (answer : List ℕ) → judge_port_of l devices answer ≡ Accepted bus
+  pub read_same : (devices : List ℕ) (port : ℕ) (answer : List ℕ) → judge_port_of l devices answer ≡ Ok bus
       → SameTimed rom (read_io (devices_of devices) port) ItsValue c (ulb.read_io l devices port answer)
   unfolding ulb.read_io part_of answer_of
   read_same devices port answer e =
@@ -109,7 +109,7 @@ module _ (l : Lent) (bus : Bus) (rom : List ℕ) (c : ZXController) (its : our_m
       (read_timed m port) refl h.on_record.sound (tape_small devices h.flags, h.room) (λ g q. q)
 
   -- ULB_WRITE_IO is write_io, with a byte for its value; its code among the answer's bytes is that of whom write_io reached.
-  pub write_same : (devices : List ℕ) (port value : ℕ) (answer : List ℕ) → value < 256 → judge_port_of l devices answer ≡ Accepted bus
+  pub write_same : (devices : List ℕ) (port value : ℕ) (answer : List ℕ) → value < 256 → judge_port_of l devices answer ≡ Ok bus
       → SameTimed rom (write_io (devices_of devices) port value) ItsValue c (ulb.write_io l devices port value answer)
   unfolding ulb.write_io part_of answer_of
   write_same devices port value answer byte e =

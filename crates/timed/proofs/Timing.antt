@@ -6,6 +6,7 @@ use mathlib.Core.List.{List}
 use native.Mathlib.Omega.{arith}
 use borrow.Author.Rules.{rules}
 use lib.ListN.{length}
+use Rattle.std.specs.Prelude.{Result, Ok, Err}
 use Rattle.machine.specs.declared.ZXMachine.{ZXMachine}
 use Rattle.machine.specs.declared.ZXMachine.TheVariants.{Sinclair48K, Sinclair128K}
 use Rattle.machine.specs.Numbers.{specs_of}
@@ -19,8 +20,6 @@ use Rattle.bus.specs.Turns.{Turn, Part, fresh, ran_by}
 use Rattle.steps.specs.Turned.{turn_of, core_of, Ready}
 use Rattle.bus.proofs.OneStep.{frame_long}
 use Rattle.judgement.specs.declared.Refusal.{Refusal}
-use Rattle.judgement.specs.declared.Verdict.{Verdict}
-use Rattle.judgement.specs.declared.Verdict.TheVariants.{Refused, Accepted}
 use Rattle.judgement.specs.Refusals.{refusal_number}
 use Rattle.judgement.specs.Answers.{timed_answer, refused_answer}
 use Rattle.judgement.specs.Ready.{Fit, ReadyWait, ReadyPort}
@@ -54,14 +53,14 @@ module _ (bus : Bus) (begun : Turning) (ram a b border : List ℕ) (starts : tur
       → Ready (turn_of begun ram a b border) 2 28
   ready_io state devices answer r = ready_fresh answer 2 28 r.fit r.on_record.sound r.room (omega arith) (omega arith)
 
-module _ (v j : Verdict) (judged : v ≡ j) (part : ZXMachine → Part) (value : ZXMachine → Core → ℕ) (l : Lent) (answer : List ℕ) where
-  pub timed_refused : (e : Refusal) (r : ℕ) (left : List ℕ) → v ≡ Refused e
+module _ (v j : Result Bus Refusal) (judged : v ≡ j) (part : ZXMachine → Part) (value : ZXMachine → Core → ℕ) (l : Lent) (answer : List ℕ) where
+  pub timed_refused : (e : Refusal) (r : ℕ) (left : List ℕ) → v ≡ Err e
       → (r ≡ refusal_number e) × (left ≡ refused_answer 10 (refusal_number e) answer) → outcome r l left ≡ timed_call part value l answer j
   unfolding timed_call
   timed_refused e r left p q = rw (← judged, p, q.0, q.1)
 
   pub timed_accepted : (bus : Bus) (begun turn : Turning) (r n : ℕ) (state a b border left : List ℕ)
-      → v ≡ Accepted bus
+      → v ≡ Ok bus
       → turn_of begun l.ram l.a l.b l.border ≡ fresh bus.machine (lent_world bus l)
       → turn_of turn l.ram a b border ≡ ran_by (part begun.bus.machine) (turn_of begun l.ram l.a l.b l.border)
       → n ≡ value begun.bus.machine (core_of begun.bus l.ram)

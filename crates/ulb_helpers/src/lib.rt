@@ -23,7 +23,7 @@ fn help(helped: Option<u32>, answer: &mut [u8]) -> u8
             None => judgement::refuse(answer, judgement::NUMBER_LENGTH, Refusal::BadNumber),
         }
     } else {
-        judgement::number(Refusal::BadLength)
+        u8::from(Refusal::BadLength)
     }
 }
 

@@ -6,8 +6,6 @@
 ghost use Rattle.std.specs.Prelude.{◌≡◌};
 ghost use Rattle.contracts.specs.Timed.{lent, outcome, read_io};
 
-use judgement::Verdict;
-
 // A port read.
 #[unsafe(no_mangle)]
 pub extern "C" fn ulb_read_io(
@@ -25,7 +23,7 @@ pub extern "C" fn ulb_read_io(
         answer.new
         ≡ read_io (lent state.old ram.now a.old b.old border.old) devices.now port answer.old }
 {
-    let v = judgement::judge_port(
+    match judgement::judge_port(
         state,
         devices,
         ram.len(),
@@ -33,10 +31,9 @@ pub extern "C" fn ulb_read_io(
         b.len(),
         border.len(),
         answer.len(),
-    );
-    match v {
-        Verdict::Refused(e) => judgement::refuse(answer, judgement::TIMED_LENGTH, e),
-        Verdict::Accepted(held) => {
+    ) {
+        Err(e) => judgement::refuse(answer, judgement::TIMED_LENGTH, e),
+        Ok(held) => {
             let begun = steps::begun(held);
             let devices = ports::devices_from(devices.try_into().unwrap());
             let read = calls::read_io(begun, devices, port, ram, a, b, border);

@@ -4,6 +4,7 @@ use Prim.Native.Nat.{ℕ}
 use mathlib.Core.Path.{◌≡◌, ap, ◌∙◌}
 use mathlib.Core.List.{List}
 use lib.ListN.{length, replicate}
+use Rattle.std.specs.Prelude.{Result, Ok, Err}
 use Rattle.machine.specs.declared.ZXMachine.{ZXMachine}
 use Rattle.machine.specs.Numbers.{specs_of}
 use Rattle.record.specs.declared.Bus.{Bus}
@@ -11,8 +12,6 @@ use Rattle.record.specs.Record.{record_bytes, record_length, machine_of}
 use Rattle.snapshot.specs.File.{due_size, paging_in, ram_in}
 use Rattle.snapshot.specs.Kept.{registers_length, registers_in}
 use Rattle.judgement.specs.declared.Refusal.{Refusal}
-use Rattle.judgement.specs.declared.Verdict.{Verdict}
-use Rattle.judgement.specs.declared.Verdict.TheVariants.{Refused, Accepted}
 use Rattle.judgement.specs.Refusals.{refusal_number}
 use Rattle.judgement.specs.Ready.{ReadyLoadSna}
 use Rattle.judgement.proofs.Accepted.{ready_load_sna}
@@ -27,12 +26,12 @@ pub record Lengths (m : ZXMachine) (file : List ℕ) (state ram registers : ℕ)
   pub ram_is : ram ≡ (specs_of m).ram
   pub registers_is : registers ≡ registers_length
 
-module _ (l : Lent) (file registers : List ℕ) (machine : ℕ) (v : Verdict) (judged : v ≡ judge_load_sna_of l file registers machine) where
-  pub import_refused : (e : Refusal) (r : ℕ) → v ≡ Refused e → r ≡ refusal_number e → import_leaves r l registers ≡ load_sna l file registers machine
+module _ (l : Lent) (file registers : List ℕ) (machine : ℕ) (v : Result Bus Refusal) (judged : v ≡ judge_load_sna_of l file registers machine) where
+  pub import_refused : (e : Refusal) (r : ℕ) → v ≡ Err e → r ≡ refusal_number e → import_leaves r l registers ≡ load_sna l file registers machine
   unfolding load_sna begun
   import_refused e r p q = rw (← judged, p, q)
 
-  module _ (bus : Bus) (p : v ≡ Accepted bus) where
+  module _ (bus : Bus) (p : v ≡ Ok bus) where
     ready : ReadyLoadSna (length l.state) (length l.ram) (length registers) (length l.a) (length l.b) (length l.border) machine file bus
     ready = ready_load_sna _ _ _ _ _ _ machine file bus (rw (← judged, p))
 

@@ -9,8 +9,9 @@ ghost use Rattle.contracts.specs.Timed.{lent};
 ghost use Rattle.contracts.specs.Plain.{changed};
 ghost use Rattle.contracts.specs.Snapshots.{import_leaves, load_sna, save_sna};
 
-use judgement::{Refusal, Verdict};
+use judgement::Refusal;
 use memory::Map;
+use record::Bus;
 use snapshot::Snapshot;
 
 // The causes in their order: machine, lengths, the size that is due, the copies. Accepted, with the record that is to be written.
@@ -23,25 +24,25 @@ fn judge_load_sna(
     border: usize,
     machine: u32,
     file: &[u8],
-) -> Verdict
+) -> Result<Bus, Refusal>
     ensures { result ≡ judge_load_sna state ram registers a b border machine file.now }
 {
     if 1 < machine {
-        return Verdict::Refused(Refusal::BadMachine);
+        return Err(Refusal::BadMachine);
     }
     let m = record::machine_from(machine as u8);
     let fits = judgement::start_fits(m, state, ram, a, b, border)
         & (registers == snapshot::REGISTERS_LENGTH);
     if !fits {
-        return Verdict::Refused(Refusal::BadLength);
+        return Err(Refusal::BadLength);
     }
     let Some(snapshot) = Snapshot::new(m, file) else {
-        return Verdict::Refused(Refusal::WrongSize);
+        return Err(Refusal::WrongSize);
     };
     if snapshot.copies_differ() {
-        return Verdict::Refused(Refusal::UnequalCopies);
+        return Err(Refusal::UnequalCopies);
     }
-    Verdict::Accepted(snapshot.bus())
+    Ok(snapshot.bus())
 }
 
 // The record is only written, whatever it holds; ROM is not lent, so that it cannot be touched.
@@ -60,7 +61,7 @@ pub extern "C" fn ulb_load_sna(
         (lent state.new ram.new a.new b.new border.new) registers.new
         ≡ load_sna (lent state.old ram.old a.old b.old border.old) file.now registers.old machine }
 {
-    let v = judge_load_sna(
+    match judge_load_sna(
         state.len(),
         ram.len(),
         registers.len(),
@@ -69,19 +70,18 @@ pub extern "C" fn ulb_load_sna(
         border.len(),
         machine,
         file,
-    );
-    match v {
-        Verdict::Refused(e) => judgement::number(e),
-        Verdict::Accepted(bus) => {
+    ) {
+        Err(e) => u8::from(e),
+        Ok(bus) => {
             let snapshot = Snapshot {
                 machine: bus.machine,
                 file,
             };
             snapshot.read_ram(ram);
             snapshot.read_registers(registers);
-            judgement::clear(a);
-            judgement::clear(b);
-            judgement::clear(border);
+            a.fill(0);
+            b.fill(0);
+            border.fill(0);
             record::encode(state, bus);
             0
         }
@@ -93,10 +93,9 @@ pub extern "C" fn ulb_load_sna(
 pub extern "C" fn ulb_save_sna(state: &[u8], ram: &[u8], file: &mut [u8], registers: &[u8]) -> u8
     ensures { changed result file.new ≡ save_sna state.now ram.now file.old registers.now }
 {
-    let v = judgement::judge_save_sna(state, ram.len(), file.len(), registers.len());
-    match v {
-        Verdict::Refused(e) => judgement::number(e),
-        Verdict::Accepted(bus) => {
+    match judgement::judge_save_sna(state, ram.len(), file.len(), registers.len()) {
+        Err(e) => u8::from(e),
+        Ok(bus) => {
             snapshot::write_file(Map::from(bus), bus.reported, ram, registers, file);
             0
         }

@@ -4,22 +4,21 @@ use Prim.Native.Nat.{ℕ}
 use mathlib.Core.Path.{◌≡◌, ◌∙◌}
 use mathlib.Core.List.{List}
 use lib.ListN.{length, replicate}
+use Rattle.std.specs.Prelude.{Result, Ok, Err}
 use Rattle.record.specs.declared.Bus.{Bus}
 use Rattle.record.specs.Record.{record_bytes, machine_of}
 use Rattle.judgement.specs.declared.Refusal.{Refusal}
-use Rattle.judgement.specs.declared.Verdict.{Verdict}
-use Rattle.judgement.specs.declared.Verdict.TheVariants.{Refused, Accepted}
 use Rattle.judgement.specs.Refusals.{refusal_number}
 use Rattle.judgement.proofs.Accepted.{ready_start}
 use Rattle.contracts.proofs.Leaves.{ram_cleared, picture_cleared, border_cleared}
 use Rattle.contracts.specs.Timed.{Lent, lent, start_leaves, begun, judge_start_of, start_colour}
 
-module _ (l : Lent) (machine colour : ℕ) (v : Verdict) (judged : v ≡ judge_start_of l machine colour) where
-  pub start_refused : (e : Refusal) (r : ℕ) → v ≡ Refused e → r ≡ refusal_number e → start_leaves r l ≡ start_colour l machine colour
+module _ (l : Lent) (machine colour : ℕ) (v : Result Bus Refusal) (judged : v ≡ judge_start_of l machine colour) where
+  pub start_refused : (e : Refusal) (r : ℕ) → v ≡ Err e → r ≡ refusal_number e → start_leaves r l ≡ start_colour l machine colour
   unfolding start_colour begun
   start_refused e r p q = rw (← judged, p, q)
 
-  pub start_accepted : (state ram a b border : List ℕ) (bus : Bus) → v ≡ Accepted bus → state ≡ record_bytes bus
+  pub start_accepted : (state ram a b border : List ℕ) (bus : Bus) → v ≡ Ok bus → state ≡ record_bytes bus
       → ram ≡ replicate (length l.ram) 0 → a ≡ replicate (length l.a) 0 → b ≡ replicate (length l.b) 0 → border ≡ replicate (length l.border) 0
       → start_leaves 0 (lent state ram a b border) ≡ start_colour l machine colour
   unfolding start_colour begun

@@ -7,7 +7,8 @@ ghost use Rattle.std.specs.Prelude.{◌≡◌};
 ghost use Rattle.judgement.specs.Judges.{judge_start};
 ghost use Rattle.contracts.specs.Timed.{lent, start_leaves, start_colour, start};
 
-use judgement::{Refusal, Verdict};
+use judgement::Refusal;
+use record::Bus;
 
 // The causes in their order: machine, lengths, colour. Accepted, with the record that is to be written.
 fn judge_start(
@@ -18,21 +19,21 @@ fn judge_start(
     border: usize,
     machine: u32,
     colour: u32,
-) -> Verdict
+) -> Result<Bus, Refusal>
     ensures { result ≡ judge_start state ram a b border machine colour }
 {
     if 1 < machine {
-        return Verdict::Refused(Refusal::BadMachine);
+        return Err(Refusal::BadMachine);
     }
     let m = record::machine_from(machine as u8);
     let fits = judgement::start_fits(m, state, ram, a, b, border);
     if !fits {
-        return Verdict::Refused(Refusal::BadLength);
+        return Err(Refusal::BadLength);
     }
     if 7 < colour {
-        return Verdict::Refused(Refusal::BadNumber);
+        return Err(Refusal::BadNumber);
     }
-    Verdict::Accepted(record::start_record(m, colour as u8))
+    Ok(record::start_record(m, colour as u8))
 }
 
 // The record is only written, whatever it holds; ROM is not lent, so that it cannot be touched.
@@ -50,7 +51,7 @@ pub extern "C" fn ulb_start_colour(
         (lent state.new ram.new a.new b.new border.new)
         ≡ start_colour (lent state.old ram.old a.old b.old border.old) machine colour }
 {
-    let v = judge_start(
+    match judge_start(
         state.len(),
         ram.len(),
         a.len(),
@@ -58,14 +59,13 @@ pub extern "C" fn ulb_start_colour(
         border.len(),
         machine,
         colour,
-    );
-    match v {
-        Verdict::Refused(e) => judgement::number(e),
-        Verdict::Accepted(bus) => {
-            judgement::clear(ram);
-            judgement::clear(a);
-            judgement::clear(b);
-            judgement::clear(border);
+    ) {
+        Err(e) => u8::from(e),
+        Ok(bus) => {
+            ram.fill(0);
+            a.fill(0);
+            b.fill(0);
+            border.fill(0);
             record::encode(state, bus);
             0
         }

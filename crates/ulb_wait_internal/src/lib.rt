@@ -6,8 +6,6 @@
 ghost use Rattle.std.specs.Prelude.{◌≡◌};
 ghost use Rattle.contracts.specs.Timed.{lent, outcome, wait_internal};
 
-use judgement::Verdict;
-
 // The plain wait.
 #[unsafe(no_mangle)]
 pub extern "C" fn ulb_wait_internal(
@@ -24,7 +22,7 @@ pub extern "C" fn ulb_wait_internal(
         answer.new
         ≡ wait_internal (lent state.old ram.now a.old b.old border.old) clocks answer.old }
 {
-    let v = judgement::judge_wait(
+    match judgement::judge_wait(
         state,
         ram.len(),
         a.len(),
@@ -32,10 +30,9 @@ pub extern "C" fn ulb_wait_internal(
         border.len(),
         clocks,
         answer.len(),
-    );
-    match v {
-        Verdict::Refused(e) => judgement::refuse(answer, judgement::TIMED_LENGTH, e),
-        Verdict::Accepted(held) => {
+    ) {
+        Err(e) => judgement::refuse(answer, judgement::TIMED_LENGTH, e),
+        Ok(held) => {
             let begun = steps::begun(held);
             let turn = steps::wait_internal(begun, clocks, ram, a, b, border);
             timed::finish_step(turn, 0, state, answer)

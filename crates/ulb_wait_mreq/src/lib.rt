@@ -6,8 +6,6 @@
 ghost use Rattle.std.specs.Prelude.{◌≡◌};
 ghost use Rattle.contracts.specs.Timed.{lent, outcome, wait_at};
 
-use judgement::Verdict;
-
 // A wait at an address with a memory request.
 #[unsafe(no_mangle)]
 pub extern "C" fn ulb_wait_mreq(
@@ -25,7 +23,7 @@ pub extern "C" fn ulb_wait_mreq(
         answer.new
         ≡ wait_at (lent state.old ram.now a.old b.old border.old) addr clocks answer.old }
 {
-    let v = judgement::judge_wait(
+    match judgement::judge_wait(
         state,
         ram.len(),
         a.len(),
@@ -33,10 +31,9 @@ pub extern "C" fn ulb_wait_mreq(
         border.len(),
         clocks,
         answer.len(),
-    );
-    match v {
-        Verdict::Refused(e) => judgement::refuse(answer, judgement::TIMED_LENGTH, e),
-        Verdict::Accepted(held) => {
+    ) {
+        Err(e) => judgement::refuse(answer, judgement::TIMED_LENGTH, e),
+        Ok(held) => {
             let begun = steps::begun(held);
             let turn = contention::wait_mreq(begun, addr, clocks, ram, a, b, border);
             timed::finish_step(turn, 0, state, answer)

@@ -6,18 +6,17 @@
 ghost use Rattle.std.specs.Prelude.{◌≡◌};
 ghost use Rattle.contracts.specs.Plain.{changed, write_internal};
 
-use judgement::Verdict;
 use memory::Map;
 
 // Byte write.
+#[tactic(auto, unfolding(contracts::specs::Plain::write_internal))]
 #[unsafe(no_mangle)]
 pub extern "C" fn ulb_write_internal(state: &[u8], ram: &mut [u8], addr: u16, value: u8) -> u8
     ensures { changed result ram.new ≡ write_internal state.now ram.old addr value }
 {
-    let v = judgement::judge_write(state, ram.len());
-    match v {
-        Verdict::Refused(e) => judgement::number(e),
-        Verdict::Accepted(bus) => {
+    match judgement::judge_write(state, ram.len()) {
+        Err(e) => u8::from(e),
+        Ok(bus) => {
             Map::from(bus).write(ram, addr, value);
             0
         }

@@ -6,8 +6,6 @@
 ghost use Rattle.std.specs.Prelude.{◌≡◌};
 ghost use Rattle.contracts.specs.Timed.{lent, outcome, write_io};
 
-use judgement::Verdict;
-
 // A port write.
 #[unsafe(no_mangle)]
 pub extern "C" fn ulb_write_io(
@@ -26,7 +24,7 @@ pub extern "C" fn ulb_write_io(
         answer.new
         ≡ write_io (lent state.old ram.now a.old b.old border.old) devices.now port value answer.old }
 {
-    let v = judgement::judge_port(
+    match judgement::judge_port(
         state,
         devices,
         ram.len(),
@@ -34,10 +32,9 @@ pub extern "C" fn ulb_write_io(
         b.len(),
         border.len(),
         answer.len(),
-    );
-    match v {
-        Verdict::Refused(cause) => judgement::refuse(answer, judgement::TIMED_LENGTH, cause),
-        Verdict::Accepted(held) => {
+    ) {
+        Err(cause) => judgement::refuse(answer, judgement::TIMED_LENGTH, cause),
+        Ok(held) => {
             let begun = steps::begun(held);
             let devices = ports::devices_from(devices.try_into().unwrap());
             let written = calls::write_io(begun, devices, port, value, ram, a, b, border);

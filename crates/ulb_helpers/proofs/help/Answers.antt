@@ -10,4 +10,4 @@ pub returns-in-None : goal.returns-in-None
 returns-in-None c = help_refused _ _ _ _ c.if-answer-eq-NUMBER_LENGTH.true c.in-None.is c.refuse.ensures
 
 pub returns-else-answer-eq-NUMBER_LENGTH : goal.returns-else-answer-eq-NUMBER_LENGTH
-returns-else-answer-eq-NUMBER_LENGTH c = help_alone _ _ _ c.if-answer-eq-NUMBER_LENGTH.false c.number.ensures
+returns-else-answer-eq-NUMBER_LENGTH c = help_alone _ _ _ c.if-answer-eq-NUMBER_LENGTH.false c.from.ensures

@@ -1,22 +1,11 @@
--- Refused: an empty part. Accepted: the part that the definition gives for the record.
+-- Accepted: what the callee requires was judged.
 -- Assumes nothing.
 use mathlib.Core.Path.{sym, ◌∙◌}
 use Rattle.judgement.proofs.Accepted.{ready_block}
-use Rattle.contracts.specs.Plain.{block_part}
-use Rattle.contracts.proofs.Leaves.{part_refused, part_accepted, block_holds}
+use Rattle.contracts.proofs.Leaves.{block_holds}
 use Rattle.ulb_memory.proofs.block.Goals as goal
 
 pub page_data-requires : goal.page_data-requires
 page_data-requires c =
-    let r = ready_block _ _ _ _ _ _ (sym c.judge_block-v.ensures ∙ c.in-Accepted.is) in
+    let r = ready_block _ _ _ _ _ _ (sym c.judge_block.ensures.verdict ∙ c.in-Ok.is) in
     block_holds _ r (rw c.from.ensures at c.get_bank_type-page.ensures)
-
-pub returns-in-Refused : goal.returns-in-Refused
-unfolding block_part
-returns-in-Refused c = part_refused _ _ c.judge_block-v.ensures _ _ c.in-Refused.is
-
-pub returns-in-Accepted : goal.returns-in-Accepted
-unfolding block_part
-returns-in-Accepted c =
-    part_accepted _ _ c.judge_block-v.ensures _ _ _ c.in-Accepted.is
-    (rw (c.page_data.ensures, c.get_bank_type-page.ensures, c.from.ensures))

@@ -1,18 +1,9 @@
--- Refused: an empty part. Accepted: the part that the definition gives for the record.
+-- Accepted: what the callee requires was judged.
 -- Assumes nothing.
 use mathlib.Core.Path.{sym, ◌∙◌}
 use Rattle.judgement.proofs.Accepted.{ready_ram_page}
-use Rattle.contracts.specs.Plain.{ram_page_part}
-use Rattle.contracts.proofs.Leaves.{part_refused, part_accepted, page_fits}
+use Rattle.contracts.proofs.Leaves.{page_fits}
 use Rattle.ulb_memory.proofs.ram_page.Goals as goal
 
 pub ram_page_data-requires : goal.ram_page_data-requires
-ram_page_data-requires c = page_fits (ready_ram_page _ _ _ _ _ (sym c.judge_ram_page-v.ensures ∙ c.in-Accepted.is))
-
-pub returns-in-Refused : goal.returns-in-Refused
-unfolding ram_page_part
-returns-in-Refused c = part_refused _ _ c.judge_ram_page-v.ensures _ _ c.in-Refused.is
-
-pub returns-in-Accepted : goal.returns-in-Accepted
-unfolding ram_page_part
-returns-in-Accepted c = part_accepted _ _ c.judge_ram_page-v.ensures _ _ _ c.in-Accepted.is c.ram_page_data.ensures
+ram_page_data-requires c = page_fits (ready_ram_page _ _ _ _ _ (sym c.judge_ram_page.ensures.verdict ∙ c.in-Ok.is))

@@ -1,23 +1,11 @@
--- Refused: the slice is not written. Accepted: the lengths were judged, and what the callee leaves is what the definition gives for the record.
+-- Accepted: what the callee requires was judged.
 -- Assumes nothing.
 use mathlib.Core.Path.{sym, ◌∙◌}
 use Rattle.judgement.proofs.Accepted.{ready_save_scr}
-use Rattle.contracts.specs.Plain.{save_scr}
-use Rattle.contracts.proofs.Leaves.{changed_refused, changed_accepted, shown_fits}
+use Rattle.contracts.proofs.Leaves.{shown_fits}
 use Rattle.ulb_scr.proofs.ulb_save_scr.Goals as goal
 
 pub save_screen-requires : goal.save_screen-requires
 save_screen-requires c =
-    let r = ready_save_scr _ _ _ _ (sym c.judge_save_scr-v.ensures ∙ c.in-Accepted.is) in
-    (r.file_is, shown_fits _ r.on_record r.ram_is (rw c.from.ensures at c.screen_bank-page.ensures))
-
-pub returns-in-Refused : goal.returns-in-Refused
-unfolding save_scr
-returns-in-Refused c =
-    changed_refused _ _ c.judge_save_scr-v.ensures _ _ _ _ c.in-Refused.is c.number.ensures
-
-pub returns-in-Accepted : goal.returns-in-Accepted
-unfolding save_scr
-returns-in-Accepted c =
-    changed_accepted _ _ c.judge_save_scr-v.ensures _ _ _ _ c.in-Accepted.is
-    (rw (c.save_screen.ensures, c.screen_bank-page.ensures, c.from.ensures))
+    let r = ready_save_scr _ _ _ _ (sym c.judge_save_scr.ensures ∙ c.in-Ok.is) in
+    (r.file_is, shown_fits _ r.on_record r.ram_is (rw c.from-in-Ok.ensures at c.screen_bank-page.ensures))

@@ -7,12 +7,12 @@ use Rattle.contracts.proofs.Leaves.{changed_refused, changed_accepted}
 use Rattle.ulb_sna.proofs.ulb_save_sna.Goals as goal
 
 pub write_file-requires : goal.write_file-requires
-write_file-requires c = let r = ready_save_sna _ _ _ _ _ (sym c.judge_save_sna-v.ensures ∙ c.in-Accepted.is) in rw c.from.ensures (r.ram_is, r.registers_is, r.file_is)
+write_file-requires c = let r = ready_save_sna _ _ _ _ _ (sym c.judge_save_sna.ensures ∙ c.in-Ok.is) in rw c.from-in-Ok.ensures (r.ram_is, r.registers_is, r.file_is)
 
-pub returns-in-Refused : goal.returns-in-Refused
+pub returns-in-Err : goal.returns-in-Err
 unfolding save_sna
-returns-in-Refused c = changed_refused _ _ c.judge_save_sna-v.ensures _ _ _ _ c.in-Refused.is c.number.ensures
+returns-in-Err c = changed_refused _ _ c.judge_save_sna.ensures _ _ _ _ c.in-Err.is c.from.ensures
 
-pub returns-in-Accepted : goal.returns-in-Accepted
+pub returns-in-Ok : goal.returns-in-Ok
 unfolding save_sna
-returns-in-Accepted c = changed_accepted _ _ c.judge_save_sna-v.ensures _ _ _ _ c.in-Accepted.is (rw c.from.ensures at c.write_file.ensures)
+returns-in-Ok c = changed_accepted _ _ c.judge_save_sna.ensures _ _ _ _ c.in-Ok.is (rw c.from-in-Ok.ensures at c.write_file.ensures)

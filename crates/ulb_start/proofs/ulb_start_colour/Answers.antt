@@ -8,18 +8,18 @@ use Rattle.ulb_start.proofs.ulb_start_colour.Goals as goal
 
 pub encode-requires : goal.encode-requires
 encode-requires c =
-    (ready_start _ _ _ _ _ _ _ _ (sym c.judge_start-v.ensures ∙ c.in-Accepted.is)).fit.state_is
+    (ready_start _ _ _ _ _ _ _ _ (sym c.judge_start.ensures ∙ c.in-Ok.is)).fit.state_is
 
-pub returns-in-Refused : goal.returns-in-Refused
-returns-in-Refused c =
+pub returns-in-Err : goal.returns-in-Err
+returns-in-Err c =
     let g = c.args in
-    start_refused (lent g.state.now g.ram.now g.a.now g.b.now g.border.now) _ _ _ c.judge_start-v.ensures _ _ c.in-Refused.is c.number.ensures
+    start_refused (lent g.state.now g.ram.now g.a.now g.b.now g.border.now) _ _ _ c.judge_start.ensures _ _ c.in-Err.is c.from.ensures
 
-pub returns-in-Accepted : goal.returns-in-Accepted
-returns-in-Accepted c =
+pub returns-in-Ok : goal.returns-in-Ok
+returns-in-Ok c =
     let g = c.args in
-    start_accepted (lent g.state.now g.ram.now g.a.now g.b.now g.border.now) _ _ _ c.judge_start-v.ensures _ _ _ _ _ _ c.in-Accepted.is
+    start_accepted (lent g.state.now g.ram.now g.a.now g.b.now g.border.now) _ _ _ c.judge_start.ensures _ _ _ _ _ _ c.in-Ok.is
     c.encode.ensures
-    c.clear.ensures
-    c.clear-in-Accepted.ensures
-    c.clear-in-Accepted-2.ensures c.clear-in-Accepted-3.ensures
+    (c.fill.ensures.after (λ y h. h))
+    (c.fill-in-Ok.ensures.after (λ y h. h))
+    (c.fill-in-Ok-2.ensures.after (λ y h. h)) (c.fill-in-Ok-3.ensures.after (λ y h. h))

@@ -11,31 +11,31 @@ use Rattle.ulb_write_io.proofs.ulb_write_io.Goals as goal
 pub unwrap-requires : goal.unwrap-requires
 unwrap-requires c =
     let g = c.args in
-    c.try_into.ensures.0 (ready_port g.state.now _ g.devices.now _ _ _ _ _ (sym c.judge_port-v.ensures ∙ c.in-Accepted.is)).devices_is
+    c.try_into.ensures.0 (ready_port g.state.now _ g.devices.now _ _ _ _ _ (sym c.judge_port.ensures ∙ c.in-Ok.is)).devices_is
 
 pub write_io-written-requires : goal.write_io-written-requires
 write_io-written-requires c =
     let g = c.args in
     ready_io _ c.begun-begun.result g.ram.now g.a.now g.b.now g.border.now (c.begun-begun.ensures _ _ _ _) _ _ _
-    (ready_port g.state.now _ g.devices.now _ _ _ _ _ (sym c.judge_port-v.ensures ∙ c.in-Accepted.is))
+    (ready_port g.state.now _ g.devices.now _ _ _ _ _ (sym c.judge_port.ensures ∙ c.in-Ok.is))
 
 pub finish-requires : goal.finish-requires
 finish-requires c =
     let g = c.args in
-    let r = ready_port g.state.now _ g.devices.now _ _ _ _ _ (sym c.judge_port-v.ensures ∙ c.in-Accepted.is) in
+    let r = ready_port g.state.now _ g.devices.now _ _ _ _ _ (sym c.judge_port.ensures ∙ c.in-Ok.is) in
     (r.on_record.long, r.fit.answer_is)
 
-pub returns-in-Refused : goal.returns-in-Refused
+pub returns-in-Err : goal.returns-in-Err
 unfolding write_io
-returns-in-Refused c =
+returns-in-Err c =
     let g = c.args in
-    timed_refused _ _ c.judge_port-v.ensures _ _ (lent g.state.now g.ram.now g.a.now g.b.now g.border.now) g.answer.now _ _ _ c.in-Refused.is c.refuse.ensures
+    timed_refused _ _ c.judge_port.ensures _ _ (lent g.state.now g.ram.now g.a.now g.b.now g.border.now) g.answer.now _ _ _ c.in-Err.is c.refuse.ensures
 
-pub returns-in-Accepted : goal.returns-in-Accepted
+pub returns-in-Ok : goal.returns-in-Ok
 unfolding write_io
-returns-in-Accepted c =
+returns-in-Ok c =
     let g = c.args in
     let chunk = rw c.unwrap.ensures at c.try_into.ensures.1 in
     let e = c.devices_from-devices.ensures ∙ ap devices_of chunk.same in
     let io = c.write_io-written.ensures in
-    timed_accepted _ _ c.judge_port-v.ensures _ _ (lent g.state.now g.ram.now g.a.now g.b.now g.border.now) g.answer.now _ _ _ _ _ _ _ _ _ _ c.in-Accepted.is (c.begun-begun.ensures _ _ _ _) (rw e at io.0) (rw e at io.1) c.finish.ensures
+    timed_accepted _ _ c.judge_port.ensures _ _ (lent g.state.now g.ram.now g.a.now g.b.now g.border.now) g.answer.now _ _ _ _ _ _ _ _ _ _ c.in-Ok.is (c.begun-begun.ensures _ _ _ _) (rw e at io.0) (rw e at io.1) c.finish.ensures
