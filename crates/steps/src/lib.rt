@@ -70,12 +70,12 @@ fn catch_up(bus: Bus, position: u32, ram: &[u8], a: &mut [u8], b: &mut [u8]) -> 
     ensures { (result ≡ position - bus.painted) × (screen_of position a.new b.new
         ≡ caught_up (look_to position bus ram.now) (shows_a bus.phase) (screen_of bus.painted a.old b.old)) }
 {
-    let from = bus.painted as usize;
+    let from = usize::from(bus.painted);
     let to = position as usize;
     if to <= from {
         return 0;
     }
-    let start = 16384 * Map::from(bus).screen_bank() as usize;
+    let start = 16384 * usize::from(Map::from(bus).screen_bank());
     let flash = (1 <= bus.phase) & (bus.phase <= 16);
     if bus.phase % 2 == 0 {
         paint::paint_ram(ram, start, b, from, to, flash) as u32
