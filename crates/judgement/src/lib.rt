@@ -434,7 +434,7 @@ pub fn refuse(answer: &mut [u8], size: usize, e: Refusal) -> u8
     n
 }
 
-// The answer of an accepted timed call.
+// The answer of an accepted timed call. Kept: the answer's length is asked, as of every slice that is lent to be written (crate record, `encode`).
 pub fn fill_timed(
     answer: &mut [u8],
     value: u8,

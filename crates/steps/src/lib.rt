@@ -102,7 +102,8 @@ fn close_frame(bus: Bus, clock: u32, border: &mut [u8]) -> Bus
 
 // The step: n clocks are added, the screen is caught up, and at or past the frame's end one frame is taken off and closed.
 // Kept: the four lent slices stay four arguments. Behind `&mut` of a struct of them the caller does not learn what its own slices hold at the end
-// (a callee may put others into it), and by value the fields of such a struct have no names in an `ensures`.
+// (a callee may put others into it), and by value the fields of such a struct have no names in an `ensures`. Nor is `Ready` an invariant of a type: the
+// room that it says is left, in frames and in clocks, falls with each step.
 #[tactic(auto, using(crate::proofs::CodeStep::tick_on, crate::proofs::CodeStep::tick_over, machine::proofs::Bounds::position_small), unfolding(bus::specs::Time::caught_up, border::specs::Edge::finished))]
 pub fn stepped(
     t: Turning,
