@@ -1,5 +1,4 @@
--- What a call leaves, by its verdict: each way out of an extern call, over plain values. `v` is the verdict that the code holds, `j` the
--- definition's.
+-- What a helper's call leaves, and what an accepted judgement tells of the lengths that a callee asks for.
 -- Assumes nothing.
 use Prim.Native.Nat.{ℕ, ◌+◌, ◌*◌, ◌≤◌, ◌<◌}
 use mathlib.Core.Path.{◌≡◌, ap, ◌∙◌}
@@ -8,65 +7,25 @@ use mathlib.Core.List.{List, []}
 use lib.ListN.{length, replicate}
 use native.Mathlib.Omega.{arith}
 use borrow.Author.Tests.{eq-eqb, ne_eqb, leb-true}
-use Rattle.std.specs.Prelude.{Result, Ok, Err}
 use Rattle.machine.specs.declared.ZXMachine.{ZXMachine}
 use Rattle.machine.specs.Numbers.{specs_of}
 use Rattle.machine.specs.declared.ZXMachine.TheVariants.{Sinclair48K, Sinclair128K}
 use Rattle.machine.specs.Limits.{picture_length, border_length}
 use Rattle.record.specs.declared.Bus.{Bus}
-use Rattle.record.specs.Record.{record_bytes, with_paging}
-use Rattle.memory.specs.declared.Paged.{Paged}
 use Rattle.memory.specs.declared.Page.{Page}
 use Rattle.memory.specs.declared.Page.TheVariants as page
-use Rattle.memory.specs.Paging.{write7ffd, paged_code, paging_after, page_at, page_exists, shown_page}
+use Rattle.memory.specs.Paging.{page_at, page_exists, shown_page}
 use Rattle.memory.specs.Memory.{ram_page, Holds}
 use Rattle.memory.proofs.Places.{exists_fits, map_holds, shown_exists}
 use Rattle.memory.proofs.Stored.{length_part}
 use Rattle.bus.specs.World.{clear_ram, clear_picture, clear_border}
 use Rattle.std.specs.Prelude.{Option, Some, None}
-use Rattle.judgement.specs.declared.Refusal.{Refusal}
 use Rattle.judgement.specs.declared.Refusal.TheVariants.{BadLength, BadNumber}
 use Rattle.judgement.specs.Refusals.{refusal_number}
 use Rattle.judgement.specs.Answers.{number_answer, refused_answer, number_length}
 use Rattle.judgement.specs.Ready.{OnRecord, ReadyLoad, ReadyRamPage, ReadyBlock, ReadyLoadScr}
-use Rattle.contracts.specs.Plain.{told, tell, changed, change, repaged, repage, part}
+use Rattle.contracts.specs.Plain.{told}
 use Rattle.contracts.specs.Helpers.{helper_call}
-
-module _ (v j : Result Bus Refusal) (judged : v ≡ j) where
-  -- a number to give
-  pub told_refused : (number : Bus → ℕ) (answer left : List ℕ) (e : Refusal) (r : ℕ)
-      → v ≡ Err e → (r ≡ refusal_number e) × (left ≡ refused_answer 5 (refusal_number e) answer) → told r left ≡ tell number answer j
-  told_refused number answer left e r p q = rw (← judged, p, q.0, q.1)
-
-  pub told_accepted : (number : Bus → ℕ) (answer left : List ℕ) (bus : Bus) (n : ℕ)
-      → v ≡ Ok bus → left ≡ number_answer n → n ≡ number bus → told 0 left ≡ tell number answer j
-  told_accepted number answer left bus n p q h = rw (← judged, p, q, h)
-
-  -- a slice to change
-  pub changed_refused : (new : Bus → List ℕ) (old : List ℕ) (e : Refusal) (r : ℕ)
-      → v ≡ Err e → r ≡ refusal_number e → changed r old ≡ change new old j
-  changed_refused new old e r p q = rw (← judged, p, q)
-
-  pub changed_accepted : (new : Bus → List ℕ) (old left : List ℕ) (bus : Bus)
-      → v ≡ Ok bus → left ≡ new bus → changed 0 left ≡ change new old j
-  changed_accepted new old left bus p q = rw (← judged, p, q)
-
-  -- the 7FFD write
-  pub repaged_refused : (value : ℕ) (state answer left : List ℕ) (e : Refusal) (r : ℕ)
-      → v ≡ Err e → (r ≡ refusal_number e) × (left ≡ refused_answer 5 (refusal_number e) answer) → repaged r state left ≡ repage value state answer j
-  repaged_refused value state answer left e r p q = rw (← judged, p, q.0, q.1)
-
-  pub repaged_accepted : (value : ℕ) (state answer bytes left : List ℕ) (bus next : Bus) (taken : Paged) (code paging : ℕ)
-      → v ≡ Ok bus → taken ≡ write7ffd bus.machine bus.paging value → code ≡ paged_code taken → paging ≡ paging_after taken bus.paging
-      → next ≡ with_paging paging bus → bytes ≡ record_bytes next → left ≡ number_answer code → repaged 0 bytes left ≡ repage value state answer j
-  repaged_accepted value state answer bytes left bus next taken code paging p t k g n b l = rw (← judged, p, l, b, n, g, k, t)
-
-  -- a part to hand back
-  pub part_refused : (whole : Bus → List ℕ) (e : Refusal) → v ≡ Err e → [] ≡ part whole j
-  part_refused whole e p = rw (← judged, p)
-
-  pub part_accepted : (whole : Bus → List ℕ) (bus : Bus) (left : List ℕ) → v ≡ Ok bus → left ≡ whole bus → left ≡ part whole j
-  part_accepted whole bus left p q = rw (← judged, p) q
 
 -- ---- the helpers
 module _ (h : Option ℕ) (answer : List ℕ) where
