@@ -21,9 +21,6 @@ use Rattle.beam.specs.Meaning.{asked, opening, line_text, clock_meaning, line_me
 use Rattle.beam.proofs.Spelling.{same_text_lem}
 use Rattle.beam.proofs.Reading.{in_frame_lem}
 
-false_true : false ≡ true → ⊥
-false_true e = let z : ◌≡◌ {A = ℕ} 0 1 = ap (λ (b : Bool). cond b 1 0) e in omega arith
-
 -- a text that starts so is that opening and the rest
 pub opened : (p text : List ℕ) → starts_with p text ≡ true → text ≡ p ++ drop (length p) text
 unfolding starts_with

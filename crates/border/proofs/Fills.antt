@@ -1,18 +1,15 @@
 -- The laws of a fill: what callers use in place of its definition.
 -- Assumes nothing.
-use mathlib.Core.Path.{◌≡◌, refl, sym, ◌∙◌, ap}
-use mathlib.Core.List.{List, ◌++◌}
+use mathlib.Core.Path.{◌≡◌, ◌∙◌, ap}
+use mathlib.Core.List.{List}
 use mathlib.Core.Logic.{◌⊎◌, inl, inr}
 use Prim.Native.Nat.{ℕ, zero, suc, ◌+◌, ◌-◌, ◌≤◌, ◌<◌}
 use native.Mathlib.Nat.{add-zero}
 use native.Mathlib.Omega.{arith}
-use lib.ListN.{length, get_or, set, replicate, take, drop, length-replicate, get_or-replicate}
-use Rattle.std.proofs.Common.{append_assoc}
-use Rattle.std.proofs.lemmas.List.Edits.{paste_all}
-use Rattle.std.proofs.lemmas.Slice.{put_mid-paste}
-use lib.Seq.{sets, length-sets, sets-eq}
+use lib.ListN.{length, get_or, set, replicate, length-replicate, get_or-replicate}
+use lib.Seq.{sets, length-sets}
 use borrow.Rule.Slice.PartMut.{put_mid}
-use Rattle.laws.proofs.Stores.{sets_out, sets_in}
+use Rattle.laws.proofs.Stores.{stored, sets_out, sets_in}
 use Rattle.border.specs.Edge.{filled}
 
 -- one more pixel of the run
@@ -43,14 +40,7 @@ module _ (from to colour : ℕ) (pixels : List ℕ) where
   pub filled_part : (part : List ℕ) → part ≡ replicate (to - from) colour → from ≤ to → to ≤ length pixels
       → put_mid from (to - from) pixels part ≡ filled from to colour pixels
   unfolding filled
-  filled_part part e h l =
-      let run = replicate (to - from) colour in
-      let n : to - from ≡ length run = sym (length-replicate (to - from) colour) in
-      put_mid-paste from (to - from) pixels part run (to - from) e refl n
-      ∙ paste_all pixels from run (to - from) n
-      ∙ ap (λ (k : ℕ). take from pixels ++ (run ++ drop (from + k) pixels)) n
-      ∙ sym (append_assoc (take from pixels) run (drop (from + length run) pixels))
-      ∙ sym (sets-eq run pixels from (omega arith))
+  filled_part part e h l = stored from (to - from) pixels part (replicate (to - from) colour) e (length-replicate (to - from) colour) (omega arith)
 
   -- a pixel before the run, or from its end on, is what it was
   pub filled_out : (i : ℕ) → (i < from) ⊎ (to ≤ i) → from ≤ to → get_or (filled from to colour pixels) i 0 ≡ get_or pixels i 0

@@ -12,6 +12,7 @@ ghost use Rattle.border.specs.Edge.{filled, edge_of, inked, finished};
 use machine::ZXMachine;
 
 // The border's beam: the colour that it paints in, whether this frame is painted to its end, and its position in pixel pairs.
+// Kept: a flag and a position side by side, as 01's state record has them; its soundness speaks of each ("blocked only at frame end with pairs 0").
 #[derive(Clone, Copy)]
 pub struct Beam {
     pub colour: u8,

@@ -27,6 +27,7 @@ pub struct Answered {
 }
 
 // The byte at an address of the picture, which is never in ROM, so that none is lent.
+// Kept, here and below: that RAM has its machine's length is asked, since C lends the record and RAM apart, at each call anew.
 #[tactic(auto, using(memory::proofs::Places::ram_within))]
 fn picture_byte(map: Map, ram: &[u8], addr: u16) -> u8
     requires { length ram.now ≡ (specs_of map.machine).ram }

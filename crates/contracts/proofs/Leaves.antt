@@ -1,4 +1,4 @@
--- What a helper's call leaves, and what an accepted judgement tells of the lengths that a callee asks for.
+-- What an accepted judgement tells of the lengths that a callee asks for.
 -- Assumes nothing.
 use Prim.Native.Nat.{ℕ, ◌+◌, ◌*◌, ◌≤◌, ◌<◌}
 use mathlib.Core.Path.{◌≡◌, ap, ◌∙◌}
@@ -6,7 +6,7 @@ use mathlib.Core.Bool.{Bool, true}
 use mathlib.Core.List.{List, []}
 use lib.ListN.{length, replicate}
 use native.Mathlib.Omega.{arith}
-use borrow.Author.Tests.{eq-eqb, ne_eqb, leb-true}
+use borrow.Author.Tests.{leb-true}
 use Rattle.machine.specs.declared.ZXMachine.{ZXMachine}
 use Rattle.machine.specs.Numbers.{specs_of}
 use Rattle.machine.specs.declared.ZXMachine.TheVariants.{Sinclair48K, Sinclair128K}
@@ -19,28 +19,7 @@ use Rattle.memory.specs.Memory.{ram_page, Holds}
 use Rattle.memory.proofs.Places.{exists_fits, map_holds, shown_exists}
 use Rattle.memory.proofs.Stored.{length_part}
 use Rattle.bus.specs.World.{clear_ram, clear_picture, clear_border}
-use Rattle.std.specs.Prelude.{Option, Some, None}
-use Rattle.judgement.specs.declared.Refusal.TheVariants.{BadLength, BadNumber}
-use Rattle.judgement.specs.Refusals.{refusal_number}
-use Rattle.judgement.specs.Answers.{number_answer, refused_answer, number_length}
 use Rattle.judgement.specs.Ready.{OnRecord, ReadyLoad, ReadyRamPage, ReadyBlock, ReadyLoadScr}
-use Rattle.contracts.specs.Plain.{told}
-use Rattle.contracts.specs.Helpers.{helper_call}
-
--- ---- the helpers
-module _ (h : Option ℕ) (answer : List ℕ) where
-  pub help_number : (left : List ℕ) (n : ℕ) → length answer ≡ number_length → h ≡ Some n → left ≡ number_answer n → told 0 left ≡ helper_call h answer
-  unfolding helper_call
-  help_number left n l p q = rw (eq-eqb (length answer) 5 l, p, q)
-
-  pub help_refused : (left : List ℕ) (r : ℕ) → length answer ≡ number_length → h ≡ None
-      → (r ≡ refusal_number BadNumber) × (left ≡ refused_answer 5 (refusal_number BadNumber) answer) → told r left ≡ helper_call h answer
-  unfolding helper_call
-  help_refused left r l p q = rw (eq-eqb (length answer) 5 l, p, q.0, q.1)
-
-  pub help_alone : (r : ℕ) → (length answer ≡ number_length → ⊥) → r ≡ refusal_number BadLength → told r answer ≡ helper_call h answer
-  unfolding helper_call
-  help_alone r n q = rw (ne_eqb (length answer) 5 n, q)
 
 -- ---- what an accepted call may ask of the memory
 -- a RAM page that is there is whole in RAM, and its number is one byte

@@ -120,6 +120,7 @@ pub fn judge_state(state: &[u8]) -> Result<Bus, Refusal>
     Ok(record::look(state)?)
 }
 
+// Kept: this and the next differ in a field alone; a function over the field would be no shorter, and 01 names both lengths.
 fn ram_fits(bus: Bus, ram: usize) -> bool
     ensures { result ≡ ram_fits bus ram }
 {
@@ -150,6 +151,7 @@ fn frames_full(bus: Bus) -> bool
 }
 
 // A slice is given by its length from here on, the state and the device record by their bytes.
+// Kept: the lengths are numbers one by one; a struct of them would be written at each call from that call's own slices, and be no shorter.
 #[tactic(auto, unfolding(crate::specs::Judges::judge_wait, crate::specs::Refusals::judged))]
 pub fn judge_wait(
     state: &[u8],
@@ -432,7 +434,7 @@ pub fn refuse(answer: &mut [u8], size: usize, e: Refusal) -> u8
     n
 }
 
-// The answer of an accepted timed call.
+// The answer of an accepted timed call. Kept: the answer's length is asked, as of every slice that is lent to be written (crate record, `encode`).
 pub fn fill_timed(
     answer: &mut [u8],
     value: u8,

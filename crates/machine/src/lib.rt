@@ -137,7 +137,7 @@ impl ZXMachine {
         }
     }
 
-    // The delay at a clock of the frame, and why. Here and below each arm is compiled with its machine's numbers, and divides by a constant.
+    // The delay at a clock of the frame, and why. Kept, here and below: two arms, since each is compiled with its machine's numbers, and divides by a constant.
     pub fn contention(self, clocks: u32) -> Delay
         ensures { result ≡ delay_at (specs_of self) clocks }
     {

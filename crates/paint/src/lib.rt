@@ -9,7 +9,7 @@ ghost use Rattle.offsets.specs.Offset.{offset_of};
 ghost use Rattle.paint.specs.Paint.{block_at, paint, blocks};
 
 // The bytes of a video page. Kept: a picture is a slice with its length in each contract. As an array made of the slice inside a caller, the proof of
-// what the caller's slice holds afterwards does not close.
+// what the caller's slice holds afterwards does not close. That blocks end at 6,144 is asked of a number, as any range is.
 pub type Page = [u8; 16384];
 
 // Where the bitmap byte of block k stands in its page, by the bits of k: Y7 Y6 | Y2 Y1 Y0 | Y5 Y4 Y3 | X4 X3 X2 X1 X0 from Y7 .. Y0 X4 .. X0.

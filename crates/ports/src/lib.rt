@@ -228,6 +228,7 @@ fn written_by_port(m: ZXMachine, port: u16) -> Written
 }
 
 // Document 01's code of a write; the 7FFD write's own answer is the code of a paging one.
+// Kept: 01 gives each case its number, and C takes it.
 pub fn written_code(w: Written, paging: u8) -> u8
     ensures { result ≡ heard_code (hearers_of w) paging }
 {

@@ -29,7 +29,8 @@ pub struct Bus {
     pub colour: u8,
     // How far the border of this frame is painted, in pixel pairs.
     pub pairs: u16,
-    // Whether a write of this frame has already filled the border to its end. It stands behind the pairs, and not before them as in the bytes:
+    // Whether a write of this frame has already filled the border to its end. Kept beside the pairs, and not one Option of them: 01's record has both, and
+    // bytes in which they disagree stand for a record too, which is not sound. It stands behind the pairs, and not before them as in the bytes:
     // next to three single bytes the compiler packs all four and loads a mask for the flag.
     pub blocked: bool,
 }

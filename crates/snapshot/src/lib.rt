@@ -66,6 +66,7 @@ pub fn paging_in(m: ZXMachine, file: &[u8]) -> u8
 }
 
 // The banks of a file in the order in which they stand, with what may stand behind the last of them.
+// Kept: an array of the longest list's length, since a list of its own length would take heap; who writes takes the part that counts.
 fn in_order(map: Map) -> [u8; 9]
     ensures { take (length (banks_in_order map.machine map.paging)) result ≡ banks_in_order map.machine map.paging }
 {

@@ -70,12 +70,12 @@ fn catch_up(bus: Bus, position: u32, ram: &[u8], a: &mut [u8], b: &mut [u8]) -> 
     ensures { (result ≡ position - bus.painted) × (screen_of position a.new b.new
         ≡ caught_up (look_to position bus ram.now) (shows_a bus.phase) (screen_of bus.painted a.old b.old)) }
 {
-    let from = bus.painted as usize;
+    let from = usize::from(bus.painted);
     let to = position as usize;
     if to <= from {
         return 0;
     }
-    let start = 16384 * Map::from(bus).screen_bank() as usize;
+    let start = 16384 * usize::from(Map::from(bus).screen_bank());
     let flash = (1 <= bus.phase) & (bus.phase <= 16);
     if bus.phase % 2 == 0 {
         paint::paint_ram(ram, start, b, from, to, flash) as u32
@@ -102,7 +102,8 @@ fn close_frame(bus: Bus, clock: u32, border: &mut [u8]) -> Bus
 
 // The step: n clocks are added, the screen is caught up, and at or past the frame's end one frame is taken off and closed.
 // Kept: the four lent slices stay four arguments. Behind `&mut` of a struct of them the caller does not learn what its own slices hold at the end
-// (a callee may put others into it), and by value the fields of such a struct have no names in an `ensures`.
+// (a callee may put others into it), and by value the fields of such a struct have no names in an `ensures`. Nor is `Ready` an invariant of a type: the
+// room that it says is left, in frames and in clocks, falls with each step.
 #[tactic(auto, using(crate::proofs::CodeStep::tick_on, crate::proofs::CodeStep::tick_over, machine::proofs::Bounds::position_small), unfolding(bus::specs::Time::caught_up, border::specs::Edge::finished))]
 pub fn stepped(
     t: Turning,

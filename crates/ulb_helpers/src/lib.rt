@@ -11,17 +11,12 @@ use judgement::Refusal;
 use screen::ZXColor;
 
 // The answer's length is judged before the helper's number.
+#[tactic(auto, unfolding(contracts::specs::Helpers::helper_call))]
 fn help(helped: Option<u32>, answer: &mut [u8]) -> u8
     ensures { told result answer.new ≡ helper_call helped answer.old }
 {
     if answer.len() == judgement::NUMBER_LENGTH {
-        match helped {
-            Some(n) => {
-                judgement::fill_number(answer, n);
-                0
-            }
-            None => judgement::refuse(answer, judgement::NUMBER_LENGTH, Refusal::BadNumber),
-        }
+        judgement::tell(answer, helped.ok_or(Refusal::BadNumber))
     } else {
         u8::from(Refusal::BadLength)
     }

@@ -51,7 +51,7 @@ pub extern "C" fn ulb_still_picture(state: &[u8], ram: &[u8], picture: &mut [u8]
         Err(e) => u8::from(e),
         Ok(bus) => {
             let shown = Map::from(bus).screen_bank();
-            let page = memory::ram_page_data(ram, shown as u32);
+            let page = memory::ram_page_data(ram, u32::from(shown));
             paint::still(page, picture, flash == 1);
             0
         }

@@ -28,6 +28,7 @@ fn judge_load_sna(
 ) -> Result<Bus, Refusal>
     ensures { result ≡ judge_load_sna state ram registers a b border machine file.now }
 {
+    // Kept: C gives the machine as a number, and 01 has a refusal of its own for one above 1.
     if 1 < machine {
         return Err(Refusal::BadMachine);
     }

@@ -23,6 +23,7 @@ fn judge_start(
 ) -> Result<Bus, Refusal>
     ensures { result ≡ judge_start state ram a b border machine colour }
 {
+    // Kept: C gives the machine as a number, and 01 has a refusal of its own for one above 1.
     if 1 < machine {
         return Err(Refusal::BadMachine);
     }

@@ -4,7 +4,8 @@ use Rattle.std.proofs.Common.{◌∙◌, ap, refl, arith, length, List, ℕ}
 use Rattle.std.proofs.lemmas.List.Edits.{sets}
 use Rattle.record.specs.Words.{bytes16, bytes32}
 use Rattle.record.specs.Record.{advanced}
-use Rattle.record.proofs.Stored.{stored, long_le}
+use Rattle.laws.proofs.Stores.{stored}
+use Rattle.record.proofs.Stored.{long_le}
 use Rattle.record.proofs.advance.Goals as goal
 
 pub returns : goal.returns
