@@ -42,7 +42,7 @@ class Code:
 
     def __init__(self, text):
         text = re.sub(r"//[^\n]*", "", text)
-        self.names = set(re.findall(r"\b(?:fn|struct|enum|const)\s+(\w+)", text))
+        self.names = set(re.findall(r"\b(?:fn|struct|enum|const|trait|type)\s+(\w+)", text))
         self.members = {}
         for kind, owner, body in re.findall(r"^(impl|enum|pub enum)(?:<[^>]*>)?\s+(\w+)(?:<[^>]*>)?\s*\{(.*?)^\}", text, flags=re.S | re.M):
             found = r"\bfn\s+(\w+)" if kind == "impl" else r"^    (\w+)\b"
