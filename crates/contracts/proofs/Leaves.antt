@@ -1,5 +1,4 @@
--- What a call leaves, by its verdict: each way out of an extern call, over plain values. `v` is the verdict that the code holds, `j` the
--- definition's.
+-- What an accepted judgement tells of the lengths that a callee asks for.
 -- Assumes nothing.
 use Prim.Native.Nat.{ℕ, ◌+◌, ◌*◌, ◌≤◌, ◌<◌}
 use mathlib.Core.Path.{◌≡◌, ap, ◌∙◌}
@@ -8,7 +7,6 @@ use mathlib.Core.List.{List, []}
 use lib.ListN.{length, replicate}
 use native.Mathlib.Omega.{arith}
 use borrow.Author.Tests.{leb-true}
-use Rattle.std.specs.Prelude.{Result, Ok, Err}
 use Rattle.machine.specs.declared.ZXMachine.{ZXMachine}
 use Rattle.machine.specs.Numbers.{specs_of}
 use Rattle.machine.specs.declared.ZXMachine.TheVariants.{Sinclair48K, Sinclair128K}
@@ -21,20 +19,7 @@ use Rattle.memory.specs.Memory.{ram_page, Holds}
 use Rattle.memory.proofs.Places.{exists_fits, map_holds, shown_exists}
 use Rattle.memory.proofs.Stored.{length_part}
 use Rattle.bus.specs.World.{clear_ram, clear_picture, clear_border}
-use Rattle.judgement.specs.declared.Refusal.{Refusal}
-use Rattle.judgement.specs.Refusals.{refusal_number}
 use Rattle.judgement.specs.Ready.{OnRecord, ReadyLoad, ReadyRamPage, ReadyBlock, ReadyLoadScr}
-use Rattle.contracts.specs.Plain.{changed, change}
-
-module _ (v j : Result Bus Refusal) (judged : v ≡ j) where
-  -- a slice to change
-  pub changed_refused : (new : Bus → List ℕ) (old : List ℕ) (e : Refusal) (r : ℕ)
-      → v ≡ Err e → r ≡ refusal_number e → changed r old ≡ change new old j
-  changed_refused new old e r p q = rw (← judged, p, q)
-
-  pub changed_accepted : (new : Bus → List ℕ) (old left : List ℕ) (bus : Bus)
-      → v ≡ Ok bus → left ≡ new bus → changed 0 left ≡ change new old j
-  changed_accepted new old left bus p q = rw (← judged, p, q)
 
 -- ---- what an accepted call may ask of the memory
 -- a RAM page that is there is whole in RAM, and its number is one byte

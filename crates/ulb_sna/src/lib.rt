@@ -15,6 +15,7 @@ use record::Bus;
 use snapshot::Snapshot;
 
 // The causes in their order: machine, lengths, the size that is due, the copies. Accepted, with the record that is to be written.
+#[tactic(auto, unfolding(judgement::specs::Judges::judge_load_sna, judgement::specs::Refusals::judged))]
 fn judge_load_sna(
     state: usize,
     ram: usize,
@@ -90,6 +91,7 @@ pub extern "C" fn ulb_load_sna(
 }
 
 // The machine as it stands, into a file of the size that is due for it.
+#[tactic(auto, unfolding(contracts::specs::Snapshots::save_sna))]
 #[unsafe(no_mangle)]
 pub extern "C" fn ulb_save_sna(state: &[u8], ram: &[u8], file: &mut [u8], registers: &[u8]) -> u8
     ensures { changed result file.new ≡ save_sna state.now ram.now file.old registers.now }

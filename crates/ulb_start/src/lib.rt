@@ -11,6 +11,7 @@ use judgement::Refusal;
 use record::Bus;
 
 // The causes in their order: machine, lengths, colour. Accepted, with the record that is to be written.
+#[tactic(auto, unfolding(judgement::specs::Judges::judge_start, judgement::specs::Refusals::judged))]
 fn judge_start(
     state: usize,
     ram: usize,

@@ -2,17 +2,7 @@
 -- Assumes nothing.
 use mathlib.Core.Path.{sym, ◌∙◌}
 use Rattle.judgement.proofs.Accepted.{ready_save_sna}
-use Rattle.contracts.specs.Snapshots.{save_sna}
-use Rattle.contracts.proofs.Leaves.{changed_refused, changed_accepted}
 use Rattle.ulb_sna.proofs.ulb_save_sna.Goals as goal
 
 pub write_file-requires : goal.write_file-requires
 write_file-requires c = let r = ready_save_sna _ _ _ _ _ (sym c.judge_save_sna.ensures ∙ c.in-Ok.is) in rw c.from-in-Ok.ensures (r.ram_is, r.registers_is, r.file_is)
-
-pub returns-in-Err : goal.returns-in-Err
-unfolding save_sna
-returns-in-Err c = changed_refused _ _ c.judge_save_sna.ensures _ _ _ _ c.in-Err.is c.from.ensures
-
-pub returns-in-Ok : goal.returns-in-Ok
-unfolding save_sna
-returns-in-Ok c = changed_accepted _ _ c.judge_save_sna.ensures _ _ _ _ c.in-Ok.is (rw c.from-in-Ok.ensures at c.write_file.ensures)
