@@ -26,16 +26,17 @@
  * Stack that a call needs, in bytes, its return address and arguments included, on x86-64: at most, and where no
  * catch-up goes by the constant table of offsets (docs/DUTIES.md, 15; made by tools/stack)
  *  at most  without the table
- *   12,936                600  ulb_write_io
+ *   12,920                584  ulb_write_io
  *   12,600                264  ulb_read_io
- *   12,568                232  ulb_wait_mreq, ulb_wait_no_mreq
- *   12,552                216  ulb_wait_internal
- *   12,456                200  ulb_still_picture
- *      232                     ulb_load_sna, ulb_read_internal
- *      200                     ulb_load_page, ulb_load_scr, ulb_block
- *      184                     ulb_write_7ffd, ulb_save_scr, ulb_ram_page, ulb_shown_picture
- *      152                     ulb_start, ulb_start_colour, ulb_read_7ffd, ulb_int_active, ulb_frames_count
- *      136                     ulb_reset_frame_counter
+ *   12,552                216  ulb_wait_internal, ulb_wait_mreq, ulb_wait_no_mreq
+ *   12,456                184  ulb_still_picture
+ *      232                     ulb_load_sna
+ *      216                     ulb_read_internal
+ *      184                     ulb_load_page, ulb_load_scr, ulb_block
+ *      168                     ulb_write_7ffd, ulb_save_scr, ulb_ram_page, ulb_shown_picture
+ *      152                     ulb_start, ulb_start_colour
+ *      136                     ulb_read_7ffd, ulb_int_active, ulb_frames_count
+ *      120                     ulb_reset_frame_counter
  *      104                     ulb_save_sna
  *       64                     ulb_write_internal
  *       16                     ulb_bitmap_line_addr, ulb_bitmap_line_rel, ulb_bitmap_col_rel, ulb_attr_row_rel,

@@ -124,3 +124,8 @@ lines_first (b ∷ a ∷ s) h =
     (λ f. let i = lines_first (a ∷ s) (omega arith) in
     let n : line_length (b ∷ a ∷ s) ≡ suc (line_length (a ∷ s)) = simp (ne_eqb b 10 f) in
     rw n (ap (in_front b) i))
+
+-- behind a text's end no newline stands
+pub at_end_lem : (text : List ℕ) (from i : ℕ) → from + line_length (drop from text) ≡ i + line_length (drop i text) → length text ≤ i → i ≡ from + line_length (drop from text)
+unfolding line_length
+at_end_lem text from i inv h = let z : line_length (drop i text) ≡ 0 = rw (drop_of_length-le text {i = i} h) in omega arith

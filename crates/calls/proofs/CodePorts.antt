@@ -77,6 +77,9 @@ module _ (t u : Turn) (port v first : ℕ) (r : Ready t 2 28)
   pub paging_code : paged_code (write7ffd u.machine u.world.core.paging v) ≡ paged_code (write7ffd t.machine t.world.core.paging v)
   paging_code = rw (same_machine, same_paging)
 
+  pub paging_code_lem : (k : ℕ) → k ≡ paged_code (write7ffd u.machine u.world.core.paging v) → k ≡ paged_code (write7ffd t.machine t.world.core.paging v)
+  paging_code_lem k e = e ∙ paging_code
+
   first_part_lem : u ≡ ran_by (first_part t.machine port) t
   first_part_lem = steps ∙ rw is_first (sym (first_step t r.in_frame r.in_place port))
 
@@ -147,6 +150,9 @@ module _ (t : Turn) (d : Devices) (port v : ℕ) (w : Written) (heard : hearers_
     pub quiet_write : Quiet w → u ≡ turned (tick (part_clocks t.machine t.world.core.paging port t.world.core.clock + 1)) t
         → u ≡ ran_by (port_write t.machine d port v) t
     quiet_write q p = by_hearer w refl u (p ∙ sym (quiet_step t r.in_frame r.in_place port (acted_on t.machine (hearers_of w) v) (quiet_ops w q t.machine v)))
+
+    pub paging_write_lem : w ≡ written.Paging → u ≡ ran_by (paged_write t.machine port v) t → u ≡ ran_by (port_write t.machine d port v) t
+    paging_write_lem e p = by_hearer written.Paging e u (p ∙ paging_alone t port v)
 
   pub quiet_code : Quiet w → (k : ℕ) → k ≡ heard_code (hearers_of w) 0 → k ≡ write_code t.machine d port v t.world.core
   unfolding write_code

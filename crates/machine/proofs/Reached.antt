@@ -122,6 +122,17 @@ module _ (s : ZXSpecs) (w : Regular s) where
         short = omega (arith, w.narrow, w.border_in_frame, w.short);
       }
 
+  -- the clock of a position is within a frame, and so of 17 bits
+  pub block_due_fits : (p : ℕ) → p ≤ 6144 → s.block + (p - 1) / 32 * s.line + (p - 1) % 32 * 4 < 2 ^ 17
+  block_due_fits p l =
+      let a : (p - 1) / 32 ≤ 191 = omega arith in
+      omega (arith, w.blocks_in_frame, w.short, mul-le-mul_right s.line a)
+
+  pub pair_due_fits : (p : ℕ) → p ≤ 38400 → s.border + (p - 1) / 160 * s.line + (p - 1) % 160 < 2 ^ 17
+  pair_due_fits p l =
+      let a : (p - 1) / 160 ≤ 239 = omega arith in
+      omega (arith, w.border_in_frame, w.short, mul-le-mul_right s.line a)
+
   pub blocks_come : (t : ℕ) → come 32 4 6144 s.line s.block t ≡ block_position s t
   blocks_come t = blocks_are s t w.wide
 

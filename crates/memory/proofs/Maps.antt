@@ -6,13 +6,14 @@ use mathlib.Core.Bool.{true, false, ◌&&◌, ◌||◌}
 use native.Mathlib.Nat.{pow-suc}
 use native.Mathlib.Numerals.{one-add}
 use native.Mathlib.Omega.{arith}
-use lib.Bits.{bit_and, and_high}
+use lib.Bits.{bit_and, and_high, and_mask}
 use lib.Dec.{eqb}
 use lib.Pow.{pow_pos}
 use borrow.Author.Tests.{eq-eqb, ne_eqb}
 use Rattle.laws.proofs.Cases.{split}
 use Rattle.machine.specs.declared.ZXMachine.TheVariants.{Sinclair48K, Sinclair128K}
 use Rattle.machine.specs.Contended.{bank_contended}
+use Rattle.memory.specs.declared.Page.TheVariants.{Ram}
 use Rattle.memory.specs.Paging.{bit, bit_set, page_at, page_contended}
 
 -- ---- the blocks whose page is contended: block 1 on both machines, and block 3 of the 128K by its bank
@@ -49,3 +50,7 @@ pub found : (k byte : ℕ) → (bit_and byte (2 ^ k) ≡ 0 → ⊥) → bit_set 
 found k byte h =
     eq-eqb (bit k byte) 1
     (split (bit k byte) 0 (λ l. let z : bit k byte ≡ 0 = omega arith in absurd (h (omega (arith, rw z at (mask_bit k byte))))) (λ l. omega arith))
+
+-- the paged bank, as the code masks it
+pub paged_bank_lem : (paging block : ℕ) → block ≡ 3 → Ram (bit_and paging 7) ≡ page_at Sinclair128K paging block
+paged_bank_lem paging block e = rw e (ap Ram (and_mask paging 3))

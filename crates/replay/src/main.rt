@@ -46,9 +46,8 @@ struct Board {
     a: [u8; PICTURE_LENGTH],
     b: [u8; PICTURE_LENGTH],
     border: [u8; BORDER_LENGTH],
-    // A page to be loaded, and a still picture.
-    page: [u8; PAGE_LENGTH],
-    still: [u8; PICTURE_LENGTH],
+    // A still picture; a page to be loaded stands in front.
+    spare: [u8; PICTURE_LENGTH],
 }
 
 impl Board {
@@ -130,7 +129,7 @@ impl Board {
     fn load_page(&mut self, call: Call, parts: Parts) -> Result<Line, Refused> {
         let state = &self.state;
         let ram = &mut self.ram[..];
-        let page = &mut self.page;
+        let page = &mut self.spare[..PAGE_LENGTH];
         script::fill(page, call.z);
         let number = u32::from(call.x);
         script::accepted(ulb_memory::ulb_load_page(state, &mut ram[..parts.ram], page, number))?;
@@ -170,7 +169,7 @@ impl Board {
     fn still_picture(&mut self, call: Call, parts: Parts) -> Result<Line, Refused> {
         let state = &self.state;
         let ram = &self.ram;
-        let still = &mut self.still;
+        let still = &mut self.spare;
         script::accepted(ulb_pictures::ulb_still_picture(state, &ram[..parts.ram], still, call.z))?;
         Ok(Line::Number(script::digest(still)))
     }
@@ -254,8 +253,7 @@ fn main(rt: HostRuntime) -> io::Result<()> {
         a: [0; PICTURE_LENGTH],
         b: [0; PICTURE_LENGTH],
         border: [0; BORDER_LENGTH],
-        page: [0; PAGE_LENGTH],
-        still: [0; PICTURE_LENGTH],
+        spare: [0; PICTURE_LENGTH],
     };
     let mut input = rt.stdin();
     // A proved loop has to end, and nothing says that the input does: so its turns are counted, more than the stored script has.

@@ -110,6 +110,11 @@ copy_2 m byte t f =
     let p : byte % 8 ≡ 2 = else_2 (byte % 8) (rw e at t) f in
     rw (order_by m byte 2 e p, p)
 
+-- a file in which a bank stands twice
+pub twice_long : (m : ZXMachine) (file : List ℕ) (byte : ℕ) (twice : Bool) → length file ≡ due_size m (paging_in m file) → byte ≡ paging_in m file
+    → twice ≡ stands_twice m byte → twice ≡ true → length file ≡ 147487
+twice_long m file byte twice l b t y = l ∙ ap (due_size m) (sym b) ∙ sym (twice_due m byte twice (only_128 m byte (sym t ∙ y)) t y)
+
 pub differ_is : (m : ZXMachine) (file : List ℕ) (byte at : ℕ) (twice eq : Bool) → byte ≡ paging_in m file → twice ≡ stands_twice m byte → twice ≡ true
     → at ≡ place_start (first_place (paged_bank byte) (banks_in_order m byte)) → eq ≡ same_bytes (take (at + 16384 - at) (drop at file)) (take 16384 (drop 32795 file))
     → not eq ≡ copies_differ m file
