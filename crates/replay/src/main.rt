@@ -50,6 +50,11 @@ struct Board {
     spare: [u8; PICTURE_LENGTH],
 }
 
+// Makes the page that is to be loaded, in front of the spare buffer.
+fn fill_page(spare: &mut [u8; PICTURE_LENGTH], seed: u32) {
+    script::fill(&mut spare[..PAGE_LENGTH], seed);
+}
+
 impl Board {
     // The byte of the last write to port 7FFD.
     fn paging(&self) -> u8 {
@@ -127,10 +132,10 @@ impl Board {
     }
 
     fn load_page(&mut self, call: Call, parts: Parts) -> Result<Line, Refused> {
+        fill_page(&mut self.spare, call.z);
         let state = &self.state;
         let ram = &mut self.ram[..];
-        let page = &mut self.spare[..PAGE_LENGTH];
-        script::fill(page, call.z);
+        let page = &self.spare[..PAGE_LENGTH];
         let number = u32::from(call.x);
         script::accepted(ulb_memory::ulb_load_page(state, &mut ram[..parts.ram], page, number))?;
         Ok(Line::Done)
